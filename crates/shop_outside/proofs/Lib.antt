@@ -1,0 +1,8 @@
+pub mod Ascending
+pub mod Bytes
+pub mod Changing
+pub mod Finding
+pub mod Known
+pub mod Pieces
+pub mod Unchanged
+pub mod Untouched
