@@ -1,0 +1,5 @@
+pub mod Requests
+pub mod Forms
+pub mod Fitted
+pub mod Laws
+pub mod Responses
