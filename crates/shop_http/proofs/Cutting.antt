@@ -1,364 +1,292 @@
--- The cut takes the two forms and nothing else, and so it keeps what a cut has to keep.
-use Rattle.std.proofs.Common.{subst, ◌≡◌, ℕ, ◌+◌, ◌<◌, ◌≤◌, List, [], ◌∷◌, ◌++◌, length, take, drop, refl, sym, ap, ◌∙◌, ◌⊎◌, Bool, arith, inl, inr, length-append, length-drop, append_assoc}
+-- Each way in which the cut goes, and that it keeps what a cut has to keep.
+use Rattle.std.proofs.Common.{◌≡◌, ℕ, ◌+◌, ◌<◌, ◌≤◌, Bool, false, ◌==◌, ◌||◌, nat_le, List, ◌++◌, length, take, drop, map, if◌then◌else◌, refl, sym, ap, ◌∙◌, subst, inl, inr, arith, length-append, length-drop, length-take, take-append-drop, Option, Some, None, Result, Ok, Err}
 use Rattle.std.specs.Prelude.{codes}
-use Rattle.std.proofs.lemmas.Bool.{cases_lt}
-use Rattle.std.proofs.lemmas.List.{drop_at, take_at}
+use Rattle.std.proofs.lemmas.Bool.{cases_lt, lt-ltb, le-ltb, le-leb, lt-leb}
+use Rattle.std.proofs.lemmas.List.{take-append-le, drop-append-le, length-take-le}
+use Rattle.httparse.specs.Grammar.{RequestHead}
+use Rattle.httparse.specs.Spans.{header_bytes, span_bytes}
+use Rattle.httparse.specs.declared.spans.HeaderSpan.{HeaderSpan}
+use Rattle.httparse.specs.declared.spans.RequestSpans.{RequestSpans}
 use Rattle.shop_http.specs.declared.next.HeadFault.{HeadFault}
-use Rattle.shop_http.specs.declared.next.HeadFault.TheVariants.{BadHead}
+use Rattle.shop_http.specs.declared.next.HeadFault.TheVariants.{BadHead, TooLarge}
+use Rattle.shop_http.specs.declared.next.Head.{Head}
 use Rattle.shop_http.specs.declared.next.Next.{Next}
 use Rattle.shop_http.specs.declared.next.Next.TheVariants.{Whole, More, Nothing, Cut, Fatal}
-use Rattle.shop_http.specs.Requests.{Request, Front, whole, part, bad, IsCut, IsNext, request_of}
-use Rattle.shop_http.specs.Fitted.{IsWhole, IsUnfinished}
-use Rattle.shop_http.specs.Forms.{IsId, Fit, full, short, miss, text_fit, digits_fit, form_fit, digits_behind, write_front, body_front, body_back, path_front, read_front, read_back, plain_request, write_text, read_text, write_request, read_request, by_write, by_read, cut}
-use Rattle.shop_http.specs.Laws.{IsOfForm, IsBegun, CutsTheForms, longest}
-use Rattle.shop_http.proofs.Digits.{id_digits}
-use Rattle.shop_http.proofs.FitLemmas.{of_form, begun_form, no_form, form_ways, form_full, form_by, form_fit_full, form_fit_short, digits_of_form, shorter_begins}
+use Rattle.shop_http.specs.declared.region.Begun.{Begun}
+use Rattle.shop_http.specs.Requests.{Request, Field, missing, once, twice, Front, whole, part, bad, IsCut, IsNext, request_of, field_of}
+use Rattle.shop_http.specs.HeadReader.{head_of}
+use Rattle.shop_http.specs.Heads.{head_end, fields_of, named, length_of, size_of, body_size, asks_to_close, request_with, sized, judged, with_body, cut_at, head_cut}
+use Rattle.shop_http.specs.Laws.{longest}
+use Rattle.shop_http.specs.Words.{IsFound, IsJudged, IsUnfinished, front_from}
+use Rattle.shop_http.proofs.Ends.{end_within, end_more, end_late}
+use Rattle.shop_http.proofs.HeadReading.{heads_are_read}
 
-abbrev the_write : List ℕ → Fit
-the_write bytes = form_fit write_front body_back bytes
+abbrev Judged : Type 0
+Judged = Result (RequestHead × ℕ) HeadFault
 
-abbrev the_read : List ℕ → Fit
-the_read bytes = form_fit read_front read_back bytes
+-- what is made of the first n bytes
+abbrev the_region : ℕ → List ℕ → Judged
+the_region n bytes = judged (head_of (take n bytes))
 
--- ---- each way in which the cut goes
+-- ---- each way
 
-cut_is : (bytes : List ℕ) → cut bytes ≡ by_write (the_write bytes) bytes
-unfolding cut
-cut_is bytes = refl
+cut_is : (bytes : List ℕ) (o : Option ℕ) → head_end bytes ≡ o → head_cut bytes ≡ cut_at o bytes
+unfolding head_cut
+cut_is bytes o e = ap (λ (p : Option ℕ). cut_at p bytes) e
 
-pub cut_write : (bytes : List ℕ) → the_write bytes ≡ full → cut bytes ≡ whole (write_request (digits_behind write_front bytes)) 132
-cut_write bytes w = cut_is bytes ∙ ap (λ f. by_write f bytes) w
+pub cut_waits : (bytes : List ℕ) → head_end bytes ≡ None → length bytes < 16384 → head_cut bytes ≡ part
+cut_waits bytes e less =
+    cut_is bytes None e ∙ ap (λ (t : Bool). if t then part else bad BadHead) (lt-ltb (length bytes) 16384 less)
 
-pub cut_part : (bytes : List ℕ) → the_write bytes ≡ short → cut bytes ≡ part
-cut_part bytes w = cut_is bytes ∙ ap (λ f. by_write f bytes) w
+cut_endless : (bytes : List ℕ) → head_end bytes ≡ None → 16384 ≤ length bytes → head_cut bytes ≡ bad BadHead
+cut_endless bytes e long =
+    cut_is bytes None e ∙ ap (λ (t : Bool). if t then part else bad BadHead) (le-ltb (length bytes) 16384 long)
 
-cut_rest : (bytes : List ℕ) → the_write bytes ≡ miss → cut bytes ≡ by_read (the_read bytes) bytes
-cut_rest bytes w = cut_is bytes ∙ ap (λ f. by_write f bytes) w
+cut_long : (bytes : List ℕ) (n : ℕ) → head_end bytes ≡ Some n → 16384 < n → head_cut bytes ≡ bad BadHead
+cut_long bytes n e long =
+    cut_is bytes (Some n) e ∙ ap (λ (t : Bool). if t then with_body (the_region n bytes) n (drop n bytes) else bad BadHead) (lt-leb n 16384 long)
 
-pub cut_read : (bytes : List ℕ) → the_write bytes ≡ miss → the_read bytes ≡ full → cut bytes ≡ whole (read_request (digits_behind read_front bytes)) 63
-cut_read bytes w r = cut_rest bytes w ∙ ap (λ f. by_read f bytes) r
+pub cut_head : (bytes : List ℕ) (n : ℕ) (r : Judged) → head_end bytes ≡ Some n → n ≤ 16384 → the_region n bytes ≡ r
+    → head_cut bytes ≡ with_body r n (drop n bytes)
+cut_head bytes n r e fits j =
+    cut_is bytes (Some n) e ∙ ap (λ (t : Bool). if t then with_body (the_region n bytes) n (drop n bytes) else bad BadHead) (le-leb n 16384 fits)
+    ∙ ap (λ (s : Judged). with_body s n (drop n bytes)) j
 
-pub cut_read_part : (bytes : List ℕ) → the_write bytes ≡ miss → the_read bytes ≡ short → cut bytes ≡ part
-cut_read_part bytes w r = cut_rest bytes w ∙ ap (λ f. by_read f bytes) r
+body_there : (p : RequestHead × ℕ) (used : ℕ) (behind : List ℕ) → p.1 ≤ length behind
+    → with_body (Ok p) used behind ≡ whole (request_with p.0 (take p.1 behind)) (used + p.1)
+body_there p used behind fits =
+    ap (λ (t : Bool). if t then whole (request_with p.0 (take p.1 behind)) (used + p.1) else part) (le-leb p.1 (length behind) fits)
 
-pub cut_bad : (bytes : List ℕ) → the_write bytes ≡ miss → the_read bytes ≡ miss → cut bytes ≡ bad BadHead
-cut_bad bytes w r = cut_rest bytes w ∙ ap (λ f. by_read f bytes) r
-
--- a read isn't a write, not even the beginning of one
-starts_apart : (bytes : List ℕ) → text_fit write_front (71 ∷ bytes) ≡ miss
-unfolding text_fit
-starts_apart bytes = refl
-
-pub not_write : (bytes : List ℕ) → the_write (71 ∷ bytes) ≡ miss
-not_write bytes = form_by write_front body_back (71 ∷ bytes) miss (digits_fit (drop (length write_front) (71 ∷ bytes)))
-    (text_fit body_back (drop (length write_front + 32) (71 ∷ bytes))) (starts_apart bytes) refl refl
-
--- ---- the texts
-
-write_parts : (digits more : List ℕ) → write_text digits ++ more ≡ write_front ++ (digits ++ (body_back ++ more))
-unfolding write_text
-write_parts digits more = append_assoc write_front (digits ++ body_back) more ∙ ap (λ t. write_front ++ t) (append_assoc digits body_back more)
-
-read_parts : (digits more : List ℕ) → read_text digits ++ more ≡ read_front ++ (digits ++ (read_back ++ more))
-unfolding read_text
-read_parts digits more = append_assoc read_front (digits ++ read_back) more ∙ ap (λ t. read_front ++ t) (append_assoc digits read_back more)
-
-write_whole : (digits : List ℕ) → write_text digits ≡ write_front ++ (digits ++ body_back)
-unfolding write_text
-write_whole digits = refl
-
-read_whole : (digits : List ℕ) → read_text digits ≡ read_front ++ (digits ++ read_back)
-unfolding read_text
-read_whole digits = refl
-
-around_length : (front digits back : List ℕ) → length digits ≡ 32 → length (front ++ (digits ++ back)) ≡ length front + (32 + length back)
-around_length front digits back h = omega (arith, length-append front (digits ++ back), length-append digits back)
-
-pub write_length : (digits : List ℕ) → IsId digits → length (write_text digits) ≡ 132
-write_length digits is = ap length (write_whole digits) ∙ around_length write_front digits body_back (id_digits digits is).0
-
-pub read_length : (digits : List ℕ) → IsId digits → length (read_text digits) ≡ 63
-read_length digits is = ap length (read_whole digits) ∙ around_length read_front digits read_back (id_digits digits is).0
-
-read_begins : (digits : List ℕ) → read_text digits ≡ 71 ∷ drop 1 (read_text digits)
-unfolding read_text
-read_begins digits = refl
-
--- ---- the requests of the forms are cut off
-
-pub cut_of_write : (digits more : List ℕ) → IsId digits → cut (write_text digits ++ more) ≡ whole (write_request digits) 132
-cut_of_write digits more is =
-    ap cut (write_parts digits more)
-    ∙ cut_write (write_front ++ (digits ++ (body_back ++ more))) (form_fit_full write_front body_back digits more is)
-    ∙ ap (λ d. whole (write_request d) 132) (digits_of_form write_front body_back digits more is)
-
-pub cut_of_read : (digits more : List ℕ) → IsId digits → cut (read_text digits ++ more) ≡ whole (read_request digits) 63
-cut_of_read digits more is =
-    ap cut (read_parts digits more)
-    ∙ cut_read (read_front ++ (digits ++ (read_back ++ more))) (not_write (drop 1 (read_front ++ (digits ++ (read_back ++ more)))))
-    (form_fit_full read_front read_back digits more is)
-    ∙ ap (λ d. whole (read_request d) 63) (digits_of_form read_front read_back digits more is)
-
--- ---- and nothing else is
-
-pub whole_write_is : (bytes : List ℕ) → the_write bytes ≡ full → IsOfForm write_text write_request 132 bytes (write_request (digits_behind write_front bytes)) 132
-whole_write_is bytes w =
-    let b = form_full write_front body_back bytes w in
-    let digits : List ℕ = digits_behind write_front bytes in
-    let all : bytes ≡ write_text digits ++ b.rest = b.parts ∙ sym (write_parts digits b.rest) in
-    let left : drop 132 bytes ≡ b.rest = ap (drop 132) all ∙ drop_at (write_text digits) b.rest 132 (write_length digits b.id) in
-    record { digits = digits; id = b.id; begins = all ∙ ap (λ t. write_text digits ++ t) (sym left); asks = refl; size_used = refl }
-
-pub whole_read_is : (bytes : List ℕ) → the_read bytes ≡ full → IsOfForm read_text read_request 63 bytes (read_request (digits_behind read_front bytes)) 63
-whole_read_is bytes w =
-    let b = form_full read_front read_back bytes w in
-    let digits : List ℕ = digits_behind read_front bytes in
-    let all : bytes ≡ read_text digits ++ b.rest = b.parts ∙ sym (read_parts digits b.rest) in
-    let left : drop 63 bytes ≡ b.rest = ap (drop 63) all ∙ drop_at (read_text digits) b.rest 63 (read_length digits b.id) in
-    record { digits = digits; id = b.id; begins = all ∙ ap (λ t. read_text digits ++ t) (sym left); asks = refl; size_used = refl }
-
-short_write_is : (bytes : List ℕ) → the_write bytes ≡ short → IsBegun write_text bytes
-short_write_is bytes w = elim (form_ways write_front body_back bytes) as (λ _. IsBegun write_text bytes) [
-  | of_form f rest id e ↦ (let no = sym w ∙ f in cc)
-  | begun_form f id more is some e ↦ record { digits = id; id = is; more = more; some_more = some; completes = e ∙ sym (write_whole id) }
-  | no_form f ↦ (let no = sym w ∙ f in cc)
-]
-
-short_read_is : (bytes : List ℕ) → the_read bytes ≡ short → IsBegun read_text bytes
-short_read_is bytes w = elim (form_ways read_front read_back bytes) as (λ _. IsBegun read_text bytes) [
-  | of_form f rest id e ↦ (let no = sym w ∙ f in cc)
-  | begun_form f id more is some e ↦ record { digits = id; id = is; more = more; some_more = some; completes = e ∙ sym (read_whole id) }
-  | no_form f ↦ (let no = sym w ∙ f in cc)
-]
-
--- ---- which way it goes
-
-abbrev IsForm : List ℕ → Request → ℕ → Type 0
-IsForm bytes r used = IsOfForm write_text write_request 132 bytes r used ⊎ IsOfForm read_text read_request 63 bytes r used
-
-abbrev IsBeginning : List ℕ → Type 0
-IsBeginning bytes = IsBegun write_text bytes ⊎ IsBegun read_text bytes
+body_short : (p : RequestHead × ℕ) (used : ℕ) (behind : List ℕ) → length behind < p.1 → with_body (Ok p) used behind ≡ part
+body_short p used behind less =
+    ap (λ (t : Bool). if t then whole (request_with p.0 (take p.1 behind)) (used + p.1) else part) (lt-leb p.1 (length behind) less)
 
 data Way (bytes : List ℕ) : Type 0 where
-  is_whole : (r : Request) (used : ℕ) → cut bytes ≡ whole r used → IsForm bytes r used → Way bytes
-  is_part : cut bytes ≡ part → IsBeginning bytes → Way bytes
-  is_bad : cut bytes ≡ bad BadHead → Way bytes
+  waits : length bytes < 16384 → head_cut bytes ≡ part → Way bytes
+  endless : head_end bytes ≡ None → 16384 ≤ length bytes → head_cut bytes ≡ bad BadHead → Way bytes
+  long : (n : ℕ) → head_end bytes ≡ Some n → 16384 < n → head_cut bytes ≡ bad BadHead → Way bytes
+  faulty : (n : ℕ) (f : HeadFault) → head_end bytes ≡ Some n → n ≤ 16384 → the_region n bytes ≡ Err f → head_cut bytes ≡ bad f → Way bytes
+  begun : (n : ℕ) (p : RequestHead × ℕ) → head_end bytes ≡ Some n → n ≤ 16384 → the_region n bytes ≡ Ok p → length (drop n bytes) < p.1
+      → head_cut bytes ≡ part → Way bytes
+  complete : (n : ℕ) (p : RequestHead × ℕ) → head_end bytes ≡ Some n → n ≤ 16384 → the_region n bytes ≡ Ok p → p.1 ≤ length (drop n bytes)
+      → head_cut bytes ≡ whole (request_with p.0 (take p.1 (drop n bytes))) (n + p.1) → Way bytes
 
-read_way : (bytes : List ℕ) → the_write bytes ≡ miss → Way bytes
-read_way bytes w = elim (the_read bytes) as (λ v. the_read bytes ≡ v → Way bytes) [
-  | full ↦ λ r. is_whole (read_request (digits_behind read_front bytes)) 63 (cut_read bytes w r) (inr (whole_read_is bytes r))
-  | short ↦ λ r. is_part (cut_read_part bytes w r) (inr (short_read_is bytes r))
-  | miss ↦ λ r. is_bad (cut_bad bytes w r)
-] refl
+region_way : (bytes : List ℕ) (n : ℕ) → head_end bytes ≡ Some n → n ≤ 16384 → (r : Judged) → the_region n bytes ≡ r → Way bytes
+region_way bytes n e fits (Err f) j = faulty n f e fits j (cut_head bytes n (Err f) e fits j)
+region_way bytes n e fits (Ok p) j = elim (cases_lt (length (drop n bytes)) p.1) as (λ _. Way bytes) [
+  | inl less ↦ begun n p e fits j less (cut_head bytes n (Ok p) e fits j ∙ body_short p n (drop n bytes) less)
+  | inr there ↦ complete n p e fits j there (cut_head bytes n (Ok p) e fits j ∙ body_there p n (drop n bytes) there)
+]
+
+end_way : (bytes : List ℕ) (o : Option ℕ) → head_end bytes ≡ o → Way bytes
+end_way bytes None e = elim (cases_lt (length bytes) 16384) as (λ _. Way bytes) [
+  | inl less ↦ waits less (cut_waits bytes e less)
+  | inr far ↦ endless e far (cut_endless bytes e far)
+]
+end_way bytes (Some n) e = elim (cases_lt 16384 n) as (λ _. Way bytes) [
+  | inl far ↦ long n e far (cut_long bytes n e far)
+  | inr fits ↦ region_way bytes n e fits (the_region n bytes) refl
+]
 
 way : (bytes : List ℕ) → Way bytes
-way bytes = elim (the_write bytes) as (λ v. the_write bytes ≡ v → Way bytes) [
-  | full ↦ λ w. is_whole (write_request (digits_behind write_front bytes)) 132 (cut_write bytes w) (inl (whole_write_is bytes w))
-  | short ↦ λ w. is_part (cut_part bytes w) (inl (short_write_is bytes w))
-  | miss ↦ λ w. read_way bytes w
-] refl
+way bytes = end_way bytes (head_end bytes) refl
 
-same_whole : (r s : Request) (m n : ℕ) (P : Request → ℕ → Type 0) (front : Front HeadFault) → front ≡ whole r m → front ≡ whole s n → P r m → P s n
-same_whole r s m n P front f g p =
-    let one : r ≡ s = cc in
-    let two : m ≡ n = cc in
-    subst (λ k. P s k) two (subst (λ q. P q m) one p)
+-- ---- no body that is taken is too large
 
-pub only : (bytes : List ℕ) (r : Request) (used : ℕ) → cut bytes ≡ whole r used → IsForm bytes r used
-only bytes r used h = elim (way bytes) as (λ _. IsForm bytes r used) [
-  | is_whole s n e f ↦ same_whole s r n used (IsForm bytes) (cut bytes) e h f
-  | is_part e b ↦ (let no = sym e ∙ h in cc)
-  | is_bad e ↦ (let no = sym e ∙ h in cc)
+abbrev size_if : ℕ → Bool → Result ℕ HeadFault
+size_if n t = if t then Ok n else Err TooLarge
+
+abbrev size_is : ℕ → Result ℕ HeadFault
+size_is n = Ok n
+
+size_at_most : (m n : ℕ) → size_is m ≡ size_is n → m ≤ 1048576 → n ≤ 1048576
+size_at_most m n same fits = let equal : m ≡ n = cc in omega arith
+
+size_small : (r : Result ℕ HeadFault) (coding : Field) (n : ℕ) → size_of r coding ≡ Ok n → n ≤ 1048576
+size_small (Err f) coding n e = absurd (cc)
+size_small (Ok m) (once v) n e = absurd (cc)
+size_small (Ok m) twice n e = absurd (cc)
+size_small (Ok m) missing n e = elim (cases_lt 1048576 m) as (λ _. n ≤ 1048576) [
+  | inl large ↦ (let none : size_if m false ≡ size_is n = ap (size_if m) (sym (lt-leb m 1048576 large)) ∙ e in absurd (cc))
+  | inr fits ↦ (let some : size_is m ≡ size_is n = ap (size_if m) (sym (le-leb m 1048576 fits)) ∙ e in size_at_most m n some fits)
 ]
 
-begun_where_part : (bytes : List ℕ) → cut bytes ≡ part → IsBeginning bytes
-begun_where_part bytes h = elim (way bytes) as (λ _. IsBeginning bytes) [
-  | is_whole s n e f ↦ (let no = sym e ∙ h in cc)
-  | is_part e b ↦ b
-  | is_bad e ↦ (let no = sym e ∙ h in cc)
-]
+body_small : (fields : List (List ℕ × List ℕ)) (n : ℕ) → body_size fields ≡ Ok n → n ≤ 1048576
+unfolding body_size
+body_small fields n e = size_small (length_of (named (codes "content-length") fields)) (named (codes "transfer-encoding") fields) n e
 
-refused : (bytes : List ℕ) → ((r : Request) (used : ℕ) → cut bytes ≡ whole r used → ⊥) → (cut bytes ≡ part → ⊥) → cut bytes ≡ bad BadHead
-refused bytes h k = elim (way bytes) as (λ _. cut bytes ≡ bad BadHead) [
-  | is_whole s n e f ↦ absurd (h s n e)
-  | is_part e b ↦ absurd (k e)
-  | is_bad e ↦ e
-]
+sized_small : (h : RequestHead) (r : Result ℕ HeadFault) → ((n : ℕ) → r ≡ Ok n → n ≤ 1048576) → (p : RequestHead × ℕ) → sized h r ≡ Ok p → p.1 ≤ 1048576
+sized_small h (Err f) small p e = absurd (cc)
+sized_small h (Ok n) small p e = (let same : (h, n) ≡ p = cc in omega (arith, small n refl, ap (λ (q : RequestHead × ℕ). q.1) same))
 
--- ---- a beginning is waited for
-
-part_of_write : (bytes : List ℕ) → IsBegun write_text bytes → cut bytes ≡ part
-part_of_write bytes b =
-    cut_part bytes (form_fit_short write_front body_back b.digits bytes b.more b.id (b.completes ∙ write_whole b.digits) b.some_more)
-
-empty_fit : text_fit write_front [] ≡ short
-unfolding text_fit
-empty_fit = refl
-
-nothing_yet : cut [] ≡ part
-nothing_yet = cut_part [] (form_by write_front body_back [] short (digits_fit []) (text_fit body_back []) empty_fit refl refl)
-
-part_of_read : (bytes : List ℕ) → IsBegun read_text bytes → cut bytes ≡ part
-part_of_read [] b = nothing_yet
-part_of_read (x ∷ bytes) b =
-    let first : x ∷ (bytes ++ b.more) ≡ 71 ∷ drop 1 (read_text b.digits) = b.completes ∙ read_begins b.digits in
-    let is_g : 71 ≡ x = cc in
-    cut_read_part (x ∷ bytes) (subst (λ k. the_write (k ∷ bytes) ≡ miss) is_g (not_write bytes))
-    (form_fit_short read_front read_back b.digits (x ∷ bytes) b.more b.id (b.completes ∙ read_whole b.digits) b.some_more)
-
-part_where_begun : (bytes : List ℕ) → IsBeginning bytes → cut bytes ≡ part
-part_where_begun bytes b = elim b as (λ _. cut bytes ≡ part) [ inl w ↦ part_of_write bytes w | inr r ↦ part_of_read bytes r ]
-
-pub the_forms : CutsTheForms
-the_forms = record {
-  write = cut_of_write;
-  read = cut_of_read;
-  only = only;
-  unfinished = λ bytes. (begun_where_part bytes, part_where_begun bytes);
-  refused = refused;
-}
+judged_small : (o : Option RequestHead) (p : RequestHead × ℕ) → judged o ≡ Ok p → p.1 ≤ 1048576
+judged_small None p e = absurd (cc)
+judged_small (Some h) p e = sized_small h (body_size (fields_of h)) (body_small (fields_of h)) p e
 
 -- ---- what a cut has to keep
 
-takes : (bytes : List ℕ) (r : Request) (used : ℕ) → cut bytes ≡ whole r used → (0 < used) × (used ≤ length bytes)
-takes bytes r used h = elim (only bytes r used h) as (λ _. (0 < used) × (used ≤ length bytes)) [
-  | inl w ↦ enough (write_text w.digits) (drop 132 bytes) 132 w.begins (write_length w.digits w.id) w.size_used (omega arith)
-  | inr w ↦ enough (read_text w.digits) (drop 63 bytes) 63 w.begins (read_length w.digits w.id) w.size_used (omega arith)
+whole_used : (r s : Request) (m n : ℕ) (front : Front HeadFault) → front ≡ whole r m → front ≡ whole s n → m ≡ n
+whole_used r s m n front f g = cc
+
+takes : (bytes : List ℕ) (r : Request) (used : ℕ) → head_cut bytes ≡ whole r used → (0 < used) × (used ≤ length bytes)
+takes bytes r used h = elim (way bytes) as (λ _. (0 < used) × (used ≤ length bytes)) [
+  | waits less e ↦ (let no = sym e ∙ h in absurd (cc))
+  | endless o far e ↦ (let no = sym e ∙ h in absurd (cc))
+  | long n o far e ↦ (let no = sym e ∙ h in absurd (cc))
+  | faulty n f o fits j e ↦ (let no = sym e ∙ h in absurd (cc))
+  | begun n p o fits j less e ↦ (let no = sym e ∙ h in absurd (cc))
+  | complete n p o fits j there e ↦
+      (let same : n + p.1 ≡ used = whole_used (request_with p.0 (take p.1 (drop n bytes))) r (n + p.1) used (head_cut bytes) e h in
+      let within = end_within bytes n o in
+      (omega (arith, same, within.0), omega (arith, same, within.1, length-drop n bytes, there)))
+]
+
+-- bytes without an end that are as long as a head may be are no head, whatever follows
+pub endless_stays : (front more : List ℕ) → head_end front ≡ None → 16384 ≤ length front → head_cut (front ++ more) ≡ bad BadHead
+endless_stays front more none far = by_end (head_end (front ++ more)) refl
+  where
+    by_end : (o : Option ℕ) → head_end (front ++ more) ≡ o → head_cut (front ++ more) ≡ bad BadHead
+    by_end None e = cut_endless (front ++ more) e (omega (arith, length-append front more))
+    by_end (Some n) e = cut_long (front ++ more) n e (omega (arith, end_late front more n none e))
+
+-- a head and the bytes behind it, where more follow
+region_stays : (bytes more : List ℕ) (n : ℕ) → head_end bytes ≡ Some n → the_region n (bytes ++ more) ≡ the_region n bytes
+region_stays bytes more n e = ap (λ (t : List ℕ). judged (head_of t)) (take-append-le n bytes more (end_within bytes n e).1)
+
+settled : (bytes more : List ℕ) → (head_cut bytes ≡ part → ⊥) → head_cut (bytes ++ more) ≡ head_cut bytes
+settled bytes more never = elim (way bytes) as (λ _. head_cut (bytes ++ more) ≡ head_cut bytes) [
+  | waits less e ↦ absurd (never e)
+  | endless o far e ↦ endless_stays bytes more o far ∙ sym e
+  | long n o far e ↦ cut_long (bytes ++ more) n (end_more bytes more n o) far ∙ sym e
+  | faulty n f o fits j e ↦ cut_head (bytes ++ more) n (Err f) (end_more bytes more n o) fits (region_stays bytes more n o ∙ j) ∙ sym e
+  | begun n p o fits j less e ↦ absurd (never e)
+  | complete n p o fits j there e ↦
+      cut_head (bytes ++ more) n (Ok p) (end_more bytes more n o) fits (region_stays bytes more n o ∙ j)
+      ∙ same_body n p (drop-append-le n bytes more (end_within bytes n o).1) there ∙ sym e
 ]
   where
-    enough : (text rest : List ℕ) (size : ℕ) → bytes ≡ text ++ rest → length text ≡ size → used ≡ size → 0 < size → (0 < used) × (used ≤ length bytes)
-    enough text rest size e l u some = (omega arith, omega (arith, length-append text rest, ap length e))
+    same_body : (n : ℕ) (p : RequestHead × ℕ) → drop n (bytes ++ more) ≡ drop n bytes ++ more → p.1 ≤ length (drop n bytes)
+        → with_body (Ok p) n (drop n (bytes ++ more)) ≡ whole (request_with p.0 (take p.1 (drop n bytes))) (n + p.1)
+    same_body n p later there =
+        ap (λ (t : List ℕ). with_body (Ok p) n t) later
+        ∙ body_there p n (drop n bytes ++ more) (omega (arith, length-append (drop n bytes) more, there))
+        ∙ ap (λ (t : List ℕ). whole (request_with p.0 t) (n + p.1)) (take-append-le p.1 (drop n bytes) more there)
 
--- what begins all the bytes begins or is begun by any front of them
-module _ (text : List ℕ → List ℕ) (request : List ℕ → Request) (size : ℕ)
-    (takes_it : (digits more : List ℕ) → IsId digits → cut (text digits ++ more) ≡ whole (request digits) size) where
-  grown_whole : (bytes more digits rest : List ℕ) → IsId digits → bytes ≡ text digits ++ rest → cut (bytes ++ more) ≡ cut bytes
-  grown_whole bytes more digits rest id e =
-      let longer : bytes ++ more ≡ text digits ++ (rest ++ more) = ap (λ t. t ++ more) e ∙ append_assoc (text digits) rest more in
-      ap cut longer ∙ takes_it digits (rest ++ more) id ∙ sym (takes_it digits rest id) ∙ ap cut (sym e)
-
-  -- where a form begins the longer bytes, the shorter ones begin with it, or are its beginning
-  begun_before : (bytes more digits rest : List ℕ) → IsId digits → bytes ++ more ≡ text digits ++ rest
-      → (cut (bytes ++ more) ≡ cut bytes) ⊎ IsBegun text bytes
-  begun_before bytes more digits rest id e = elim (cases_lt (length bytes) (length (text digits))) as (λ _. (cut (bytes ++ more) ≡ cut bytes) ⊎ IsBegun text bytes) [
-    | inl less ↦ inr (record {
-      digits = digits;
-      id = id;
-      more = drop (length bytes) (text digits);
-      some_more = omega (arith, length-drop (length bytes) (text digits));
-      completes = sym (shorter_begins bytes more (text digits) rest e (omega arith));
-    })
-    | inr enough ↦ inl (grown_whole bytes more digits (drop (length (text digits)) bytes) id (shorter_begins (text digits) rest bytes more (sym e) enough))
-  ]
-
-begun_of_more : (text : List ℕ → List ℕ) (bytes more : List ℕ) → IsBegun text (bytes ++ more) → IsBegun text bytes
-begun_of_more text bytes more b = record {
-  digits = b.digits;
-  id = b.id;
-  more = more ++ b.more;
-  some_more = omega (arith, length-append more b.more, b.some_more);
-  completes = sym (append_assoc bytes more b.more) ∙ b.completes;
-}
-
-beginning_of_more : (bytes more : List ℕ) → IsBeginning (bytes ++ more) → IsBeginning bytes
-beginning_of_more bytes more b = elim b as (λ _. IsBeginning bytes) [
-  | inl w ↦ inl (begun_of_more write_text bytes more w)
-  | inr r ↦ inr (begun_of_more read_text bytes more r)
+short_part : (bytes : List ℕ) → head_cut bytes ≡ part → length bytes < longest
+short_part bytes h = elim (way bytes) as (λ _. length bytes < longest) [
+  | waits less e ↦ omega (arith, less)
+  | endless o far e ↦ (let no = sym e ∙ h in absurd (cc))
+  | long n o far e ↦ (let no = sym e ∙ h in absurd (cc))
+  | faulty n f o fits j e ↦ (let no = sym e ∙ h in absurd (cc))
+  | begun n p o fits j less e ↦ omega (arith, fits, less, judged_small (head_of (take n bytes)) p j, length-drop n bytes)
+  | complete n p o fits j there e ↦ (let no = sym e ∙ h in absurd (cc))
 ]
 
-whole_stays : (bytes more : List ℕ) (r : Request) (used : ℕ) → cut bytes ≡ whole r used → cut (bytes ++ more) ≡ cut bytes
-whole_stays bytes more r used h = elim (only bytes r used h) as (λ _. cut (bytes ++ more) ≡ cut bytes) [
-  | inl w ↦ grown_whole write_text write_request 132 cut_of_write bytes more w.digits (drop 132 bytes) w.id w.begins
-  | inr w ↦ grown_whole read_text read_request 63 cut_of_read bytes more w.digits (drop 63 bytes) w.id w.begins
-]
-
--- where more bytes make a whole request, the first ones were whole or a part
-whole_before : (bytes more : List ℕ) (r : Request) (used : ℕ) → (cut bytes ≡ part → ⊥) → cut (bytes ++ more) ≡ whole r used → cut (bytes ++ more) ≡ cut bytes
-whole_before bytes more r used never h = elim (only (bytes ++ more) r used h) as (λ _. cut (bytes ++ more) ≡ cut bytes) [
-  | inl w ↦ elim (begun_before write_text write_request 132 cut_of_write bytes more w.digits (drop 132 (bytes ++ more)) w.id w.begins) as (λ _. cut (bytes ++ more) ≡ cut bytes) [
-    | inl e ↦ e
-    | inr b ↦ absurd (never (part_of_write bytes b))
-  ]
-  | inr w ↦ elim (begun_before read_text read_request 63 cut_of_read bytes more w.digits (drop 63 (bytes ++ more)) w.id w.begins) as (λ _. cut (bytes ++ more) ≡ cut bytes) [
-    | inl e ↦ e
-    | inr b ↦ absurd (never (part_of_read bytes b))
-  ]
-]
-
-settled : (bytes more : List ℕ) → (cut bytes ≡ part → ⊥) → cut (bytes ++ more) ≡ cut bytes
-settled bytes more never = elim (way bytes) as (λ _. cut (bytes ++ more) ≡ cut bytes) [
-  | is_whole r used e f ↦ whole_stays bytes more r used e
-  | is_part e b ↦ absurd (never e)
-  | is_bad e ↦ elim (way (bytes ++ more)) as (λ _. cut (bytes ++ more) ≡ cut bytes) [
-    | is_whole r used k f ↦ whole_before bytes more r used never k
-    | is_part k b ↦ absurd (never (part_where_begun bytes (beginning_of_more bytes more b)))
-    | is_bad k ↦ k ∙ sym e
-  ]
-]
-
-short_part : (bytes : List ℕ) → cut bytes ≡ part → length bytes < 132
-short_part bytes h = elim (begun_where_part bytes h) as (λ _. length bytes < 132) [
-  | inl b ↦ omega (arith, length-append bytes b.more, ap length b.completes, write_length b.digits b.id, b.some_more)
-  | inr b ↦ omega (arith, length-append bytes b.more, ap length b.completes, read_length b.digits b.id, b.some_more)
-]
-
-pub the_cut : IsCut cut longest
+pub the_cut : IsCut head_cut longest
 the_cut = record { takes = takes; settled = settled; short = short_part }
 
--- ---- what the code cuts off
+-- ---- what the code makes of the bytes
 
-pub write_long : (bytes : List ℕ) → the_write bytes ≡ full → 132 ≤ length bytes
-write_long bytes w = (takes bytes (write_request (digits_behind write_front bytes)) 132 (cut_write bytes w)).1
+-- of the first bytes, as many as a head may take
+pub front_end : (bytes : List ℕ) (n : ℕ) → head_end (take 16384 bytes) ≡ Some n → (head_end bytes ≡ Some n) × (n ≤ length bytes) × (n ≤ 16384)
+front_end bytes n e =
+    let all : head_end bytes ≡ Some n =
+    ap head_end (sym (take-append-drop 16384 bytes)) ∙ end_more (take 16384 bytes) (drop 16384 bytes) n e in
+    let within = end_within (take 16384 bytes) n e in
+    (all, (end_within bytes n all).1, omega (arith, within.1, length-take 16384 bytes))
 
-pub read_long : (bytes : List ℕ) → the_write bytes ≡ miss → the_read bytes ≡ full → 63 ≤ length bytes
-read_long bytes w r = (takes bytes (read_request (digits_behind read_front bytes)) 63 (cut_read bytes w r)).1
+pub front_endless : (bytes : List ℕ) → head_end (take 16384 bytes) ≡ None → 16384 ≤ length bytes → head_cut bytes ≡ bad BadHead
+front_endless bytes e far =
+    ap head_cut (sym (take-append-drop 16384 bytes))
+    ∙ endless_stays (take 16384 bytes) (drop 16384 bytes) e (omega (arith, length-take-le 16384 bytes far))
 
-between : (digits back rest : List ℕ) (size : ℕ) → length digits + length back ≡ size → take size (digits ++ (back ++ rest)) ≡ digits ++ back
-between digits back rest size h =
-    ap (take size) (sym (append_assoc digits back rest)) ∙ take_at (digits ++ back) rest size (length-append digits back ∙ h)
+judged_body : (b : Begun) (n : ℕ) (behind : List ℕ) (r : Judged) → IsJudged r (Ok b) → with_body r n behind ≡ front_from b n behind
+judged_body b n behind (Err f) j = absurd j
+judged_body b n behind (Ok p) j =
+    ap (λ (k : ℕ). if nat_le k (length behind) then whole (request_with p.0 (take k behind)) (n + k) else part) (sym j.1)
+    ∙ ap (λ (r : Request). if nat_le b.size (length behind) then whole r (n + b.size) else part) (sym (j.0 (take b.size behind)))
 
-write_places : List ℕ → Request
-write_places bytes = plain_request (take 4 bytes) (take 5 (drop 5 bytes)) (take 89 (drop 43 bytes))
+pub cut_judged : (bytes : List ℕ) (n : ℕ) (b : Begun) → head_end bytes ≡ Some n → n ≤ 16384 → IsJudged (the_region n bytes) (Ok b)
+    → head_cut bytes ≡ front_from b n (drop n bytes)
+cut_judged bytes n b e fits j = cut_head bytes n (the_region n bytes) e fits refl ∙ judged_body b n (drop n bytes) (the_region n bytes) j
 
-write_places_are : (x : List ℕ) → write_places (write_front ++ x) ≡ plain_request (codes "POST") (codes "/sync") (body_front ++ take 47 x)
-unfolding write_places
-write_places_are x = refl
+judged_fault : (n : ℕ) (behind : List ℕ) (f : HeadFault) (r : Judged) → IsJudged r (Err f) → with_body r n behind ≡ bad f
+judged_fault n behind f (Err g) j = ap bad (sym j)
+judged_fault n behind f (Ok p) j = absurd j
 
-pub write_at_places : (bytes : List ℕ) → the_write bytes ≡ full
-    → plain_request (take 4 bytes) (take 5 (drop 5 bytes)) (take 89 (drop 43 bytes)) ≡ write_request (digits_behind write_front bytes)
-unfolding write_places write_request
-write_at_places bytes w =
-    let b = form_full write_front body_back bytes w in
-    let digits : List ℕ = digits_behind write_front bytes in
-    ap write_places b.parts ∙ write_places_are (digits ++ (body_back ++ b.rest))
-    ∙ ap (λ t. plain_request (codes "POST") (codes "/sync") (body_front ++ t)) (between digits body_back b.rest 47 (ap (λ n. n + 15) (id_digits digits b.id).0))
+pub cut_fault : (bytes : List ℕ) (n : ℕ) (f : HeadFault) → head_end bytes ≡ Some n → n ≤ 16384 → IsJudged (the_region n bytes) (Err f)
+    → head_cut bytes ≡ bad f
+cut_fault bytes n f e fits j = cut_head bytes n (the_region n bytes) e fits refl ∙ judged_fault n (drop n bytes) f (the_region n bytes) j
 
-read_places : List ℕ → Request
-read_places bytes = plain_request (take 3 bytes) (take 46 (drop 4 bytes)) []
+pub next_same : (front : Front HeadFault) (bytes : List ℕ) (ended : Bool) (n : Next HeadFault) → head_cut bytes ≡ front → IsNext (λ _. front) bytes ended n
+    → IsNext head_cut bytes ended n
+next_same front bytes ended (Whole head body m) e p = e ∙ p
+next_same front bytes ended More e p = (e ∙ p.0, p.1)
+next_same front bytes ended Nothing e p = (e ∙ p.0, p.1, p.2)
+next_same front bytes ended Cut e p = (e ∙ p.0, p.1, p.2)
+next_same front bytes ended (Fatal f) e p = e ∙ p
 
-read_places_are : (x : List ℕ) → read_places (read_front ++ x) ≡ plain_request (codes "GET") (path_front ++ take 32 x) []
-unfolding read_places
-read_places_are x = refl
-
-pub read_at_places : (bytes : List ℕ) → the_read bytes ≡ full
-    → plain_request (take 3 bytes) (take 46 (drop 4 bytes)) [] ≡ read_request (digits_behind read_front bytes)
-unfolding read_places read_request
-read_at_places bytes w =
-    let b = form_full read_front read_back bytes w in
-    let digits : List ℕ = digits_behind read_front bytes in
-    ap read_places b.parts ∙ read_places_are (digits ++ (read_back ++ b.rest))
-    ∙ ap (λ t. plain_request (codes "GET") (path_front ++ t) []) (take_at digits (read_back ++ b.rest) 32 (id_digits digits b.id).0)
-
-pub next_whole : (bytes : List ℕ) (ended : Bool) (r : Request) (used : ℕ) (n : Next HeadFault) → IsWhole r used n → cut bytes ≡ whole r used → IsNext cut bytes ended n
-next_whole bytes ended r used (Whole head body m) p e = e ∙ ap (λ q. whole q used) (sym p.0) ∙ ap (λ k. whole (request_of head body.now) k) (sym p.1)
-next_whole bytes ended r used More p e = absurd p
-next_whole bytes ended r used Nothing p e = absurd p
-next_whole bytes ended r used Cut p e = absurd p
-next_whole bytes ended r used (Fatal f) p e = absurd p
-
-pub next_unfinished : (bytes : List ℕ) (ended : Bool) (n : Next HeadFault) → IsUnfinished bytes ended n → cut bytes ≡ part → IsNext cut bytes ended n
+pub next_unfinished : (bytes : List ℕ) (ended : Bool) (n : Next HeadFault) → IsUnfinished bytes ended n → head_cut bytes ≡ part → IsNext head_cut bytes ended n
 next_unfinished bytes ended (Whole head body m) p e = absurd p
 next_unfinished bytes ended More p e = (e, p)
 next_unfinished bytes ended Nothing p e = (e, p.0, p.1)
 next_unfinished bytes ended Cut p e = (e, p.0, p.1)
 next_unfinished bytes ended (Fatal f) p e = absurd p
+
+-- ---- what the code makes of a region
+
+abbrev the_fields : List ℕ → List HeaderSpan → RequestSpans → List (List ℕ × List ℕ)
+the_fields region spans found = map (header_bytes region) (take found.headers spans)
+
+found_is : (region : List ℕ) (spans : List HeaderSpan) (found : RequestSpans) → (f : IsFound region spans found)
+    → judged (head_of region) ≡ sized f.head (body_size (the_fields region spans found))
+found_is region spans found f =
+    ap judged ((heads_are_read region f.head).1 f.is_head) ∙ ap (λ (t : List (List ℕ × List ℕ)). sized f.head (body_size t)) (sym f.parts.fields)
+
+pub found_fault : (region : List ℕ) (spans : List HeaderSpan) (found : RequestSpans) (g : HeadFault) → IsFound region spans found
+    → body_size (the_fields region spans found) ≡ Err g → IsJudged (judged (head_of region)) (Err g)
+found_fault region spans found g f e =
+    subst (λ (r : Judged). IsJudged r (Err g)) (sym (found_is region spans found f ∙ ap (sized f.head) e)) refl
+
+-- the head that is made has the parts of the head that was found
+pub record HasParts (region : List ℕ) (found : RequestSpans) (fields : List (List ℕ × List ℕ)) (h : Head) : Type 0 where
+  pub method : h.method.now ≡ span_bytes region found.method
+  pub target : h.target.now ≡ span_bytes region found.path
+  pub closing : h.closing ≡ (found.version == 0 || asks_to_close fields)
+  pub language : field_of h.language ≡ named (codes "x-language-id") fields
+  pub version : field_of h.version ≡ named (codes "x-version-id") fields
+  pub inheritance : field_of h.inheritance ≡ named (codes "x-inheritance") fields
+  pub min_front : field_of h.min_front ≡ named (codes "x-min-front") fields
+
+request_is : (region : List ℕ) (spans : List HeaderSpan) (found : RequestSpans) (f : IsFound region spans found) (h : Head)
+    → HasParts region found (the_fields region spans found) h → (body : List ℕ) → request_of h body ≡ request_with f.head body
+unfolding request_with
+request_is region spans found f h parts body =
+    let named_as : (name : List ℕ) → named name (the_fields region spans found) ≡ named name (fields_of f.head) =
+    λ name. ap (named name) f.parts.fields in
+    let method : h.method.now ≡ f.head.method = parts.method ∙ f.parts.method in
+    let target : h.target.now ≡ f.head.target = parts.target ∙ f.parts.path in
+    let closing : h.closing ≡ (f.head.minor == 0 || asks_to_close (fields_of f.head)) =
+    parts.closing ∙ ap (λ (v : ℕ). v == 0 || asks_to_close (the_fields region spans found)) f.parts.version
+    ∙ ap (λ (t : List (List ℕ × List ℕ)). f.head.minor == 0 || asks_to_close t) f.parts.fields in
+    let language = parts.language ∙ named_as (codes "x-language-id") in
+    let version = parts.version ∙ named_as (codes "x-version-id") in
+    let inheritance = parts.inheritance ∙ named_as (codes "x-inheritance") in
+    let min_front = parts.min_front ∙ named_as (codes "x-min-front") in
+    λ i. record {
+      method = method i;
+      target = target i;
+      closing = closing i;
+      language = language i;
+      version = version i;
+      inheritance = inheritance i;
+      min_front = min_front i;
+      body = body;
+    }
+
+pub found_begun : (region : List ℕ) (spans : List HeaderSpan) (found : RequestSpans) (b : Begun) → IsFound region spans found
+    → body_size (the_fields region spans found) ≡ Ok b.size → HasParts region found (the_fields region spans found) b.head
+    → IsJudged (judged (head_of region)) (Ok b)
+found_begun region spans found b f e parts =
+    subst (λ (r : Judged). IsJudged r (Ok b)) (sym (found_is region spans found f ∙ ap (sized f.head) e))
+    (request_is region spans found f b.head parts, refl)

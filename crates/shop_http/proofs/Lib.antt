@@ -1,3 +1,4 @@
-pub mod Digits
-pub mod FitLemmas
+pub mod HeadReading
+pub mod FieldLemmas
+pub mod Ends
 pub mod Cutting

@@ -1,5 +1,6 @@
 pub mod Requests
-pub mod Forms
-pub mod Fitted
+pub mod HeadReader
+pub mod Heads
 pub mod Laws
+pub mod Words
 pub mod Responses

@@ -4,7 +4,6 @@ use Rattle.std.specs.List.{list_any}
 use Rattle.http.specs.StatusCode.{reason_phrase}
 use Rattle.shop_http.specs.declared.respond.Method2.{Method2}
 use Rattle.shop_http.specs.declared.respond.Method2.TheVariants.{Get, Post}
-use Rattle.shop_http.specs.Forms.{crlf}
 
 -- the statuses that are ever answered
 abbrev pub named_statuses : List ℕ
@@ -12,6 +11,10 @@ named_statuses = 200 ∷ 400 ∷ 404 ∷ 405 ∷ 409 ∷ 413 ∷ 501 ∷ 503 ∷
 
 abbrev pub IsNamed : ℕ → Type 0
 IsNamed status = IsTrue (list_any (λ s. status == s) named_statuses)
+
+-- the end of a line
+abbrev pub crlf : List ℕ
+crlf = 13 ∷ 10 ∷ []
 
 -- the words that stand for a status
 abbrev pub phrase_of : ℕ → List ℕ

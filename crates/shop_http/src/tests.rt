@@ -1,105 +1,409 @@
-use crate::next::{Next, next_request};
+use crate::next::{Given, HeadFault, Next, next_request};
 use crate::respond::{Method2, no_memory_response, not_built_response, response};
 use std::process::Abort;
 use std::test::Fail;
 
-const WRITE: &[u8; 132] =
-    b"POST /sync HTTP/1.1\r\nContent-Length: 89\r\n\r\n[{\"op\":\"upsert\",\"entity\":\"category\",\"id\":\"0123456789abcdef0123456789abcdef\",\"fields\":{}}]";
+/// What came, with how many bytes a request takes.
+#[derive(Clone, Copy, Debug, PartialEq, Eq)]
+enum Seen {
+    Whole(usize),
+    More,
+    Nothing,
+    Cut,
+    Fatal(HeadFault),
+}
 
-const READ: &[u8; 63] = b"GET /row/category/00000000000000000000000000000001 HTTP/1.1\r\n\r\n";
+use HeadFault::{BadHead, Chunked, TooLarge};
+use Seen::{Fatal, Whole};
 
-const NO_REQUESTS: [&[u8]; 5] = [
-    b"GET /front HTTP/1.1\r\n\r\n",
-    b"GET /row/category/00000000000000000000000000000000 HTTP/1.1\r\n\r\n",
-    b"GET /row/category/0000000000000000000000000000000A HTTP/1.1\r\n\r\n",
-    b"GET /row/category/0000000000000000000000000000001 HTTP/1.1\r\n\r\n",
-    b"POST /sync HTTP/1.1\r\nContent-Length: 88\r\n\r\n",
+/// Bytes, whether no more come, and what comes of them.
+const CUTS: [(&[u8], bool, Seen); 62] = [
+    // nothing, a piece, a whole head
+    (b"", false, Seen::More),
+    (b"", true, Seen::Nothing),
+    (b"G", false, Seen::More),
+    (b"G", true, Seen::Cut),
+    (b"GET / HTTP/1.1\r\n\r", false, Seen::More),
+    (b"GET / HTTP/1.1\r\n\r", true, Seen::Cut),
+    (b"GET / HTTP/1.1\r\n\r\n", false, Whole(18)),
+    (b"GET / HTTP/1.1\r\n\r\n", true, Whole(18)),
+    (b"GET / HTTP/1.1\r\n\r\nGET ", false, Whole(18)),
+    // a piece that no bytes can make a head is waited for until it ends
+    (b"no head", false, Seen::More),
+    (b"no head\r\n\r\n", false, Fatal(BadHead)),
+    // line ends
+    (b"GET / HTTP/1.1\n\n", false, Whole(16)),
+    (b"GET / HTTP/1.1\r\nA: b\n\r\n", false, Whole(23)),
+    (b"GET / HTTP/1.1\r\nA: b\r\n\n", false, Whole(23)),
+    (b"GET / HTTP/1.1\rA: b\r\n\r\n", false, Fatal(BadHead)),
+    (b"GET / HTTP/1.1\r\nA: b\rc\r\n\r\n", false, Fatal(BadHead)),
+    (
+        b"GET / HTTP/1.1\r\nA: b\r\n c\r\n\r\n",
+        false,
+        Fatal(BadHead),
+    ),
+    // empty lines in front
+    (b"\r\nGET / HTTP/1.1\r\n\r\n", false, Whole(20)),
+    (b"\nGET / HTTP/1.1\r\n\r\n", false, Whole(19)),
+    (b"\r\n\r\nGET / HTTP/1.1\r\n\r\n", false, Fatal(BadHead)),
+    (b"\n\nGET / HTTP/1.1\r\n\r\n", false, Fatal(BadHead)),
+    (b"\r\n\r\n", false, Fatal(BadHead)),
+    // bytes that may not stand somewhere
+    (b"GET / HTTP/1.1\r\nA: \0\r\n\r\n", false, Fatal(BadHead)),
+    (b"GET / HTTP/1.1\r\nA\0: b\r\n\r\n", false, Fatal(BadHead)),
+    (b"GET /\0 HTTP/1.1\r\n\r\n", false, Fatal(BadHead)),
+    (
+        b"GET / HTTP/1.1\r\n\xc3\xa9: b\r\n\r\n",
+        false,
+        Fatal(BadHead),
+    ),
+    (b"GET / HTTP/1.1\r\nA: \xff\r\n\r\n", false, Whole(24)),
+    (b"GET /\xc3\xa9 HTTP/1.1\r\n\r\n", false, Whole(20)),
+    (b"GET /\xff HTTP/1.1\r\n\r\n", false, Fatal(BadHead)),
+    (b"GET / HTTP/1.1\r\nA : b\r\n\r\n", false, Fatal(BadHead)),
+    (b"GET  / HTTP/1.1\r\n\r\n", false, Fatal(BadHead)),
+    // versions
+    (b"GET / HTTP/0.9\r\n\r\n", false, Fatal(BadHead)),
+    (b"GET / HTTP/1.0\r\n\r\n", false, Whole(18)),
+    (b"GET / HTTP/1.2\r\n\r\n", false, Fatal(BadHead)),
+    (b"GET / HTTP/2.0\r\n\r\n", false, Fatal(BadHead)),
+    // the body's length
+    (
+        b"PUT / HTTP/1.1\r\nContent-Length: 3\r\n\r\nab",
+        false,
+        Seen::More,
+    ),
+    (
+        b"PUT / HTTP/1.1\r\nContent-Length: 3\r\n\r\nab",
+        true,
+        Seen::Cut,
+    ),
+    (
+        b"PUT / HTTP/1.1\r\nContent-Length: 3\r\n\r\nabc",
+        false,
+        Whole(40),
+    ),
+    (
+        b"PUT / HTTP/1.1\r\ncontent-LENGTH: 3\r\n\r\nabcd",
+        false,
+        Whole(40),
+    ),
+    (
+        b"PUT / HTTP/1.1\r\nContent-Length:\t 3 \r\n\r\nabcd",
+        false,
+        Whole(42),
+    ),
+    (
+        b"PUT / HTTP/1.1\r\nContent-Length: 0\r\n\r\nabcd",
+        false,
+        Whole(37),
+    ),
+    (
+        b"PUT / HTTP/1.1\r\nContent-Length: 3\r\nContent-Length: 3\r\n\r\nabc",
+        false,
+        Fatal(BadHead),
+    ),
+    (
+        b"PUT / HTTP/1.1\r\nContent-Length: +3\r\n\r\nabc",
+        false,
+        Fatal(BadHead),
+    ),
+    (
+        b"PUT / HTTP/1.1\r\nContent-Length: -3\r\n\r\nabc",
+        false,
+        Fatal(BadHead),
+    ),
+    (
+        b"PUT / HTTP/1.1\r\nContent-Length: 1 2\r\n\r\nabc",
+        false,
+        Fatal(BadHead),
+    ),
+    (
+        b"PUT / HTTP/1.1\r\nContent-Length: 3,3\r\n\r\nabc",
+        false,
+        Fatal(BadHead),
+    ),
+    (
+        b"PUT / HTTP/1.1\r\nContent-Length: 0x3\r\n\r\nabc",
+        false,
+        Fatal(BadHead),
+    ),
+    (
+        b"PUT / HTTP/1.1\r\nContent-Length:\r\n\r\nabc",
+        false,
+        Fatal(BadHead),
+    ),
+    (
+        b"PUT / HTTP/1.1\r\nContent-Length: 999999999999999999999999999999\r\n\r\n",
+        false,
+        Fatal(TooLarge),
+    ),
+    (
+        b"PUT / HTTP/1.1\r\nContent-Length: 000000000000000000000000000003\r\n\r\nabc",
+        false,
+        Whole(69),
+    ),
+    (
+        b"PUT / HTTP/1.1\r\nContent-Length: 18446744073709551619\r\n\r\nabc",
+        false,
+        Fatal(TooLarge),
+    ),
+    (
+        b"PUT / HTTP/1.1\r\nContent-Length: 1048576\r\n\r\n",
+        false,
+        Seen::More,
+    ),
+    (
+        b"PUT / HTTP/1.1\r\nContent-Length: 1048576\r\n\r\n",
+        true,
+        Seen::Cut,
+    ),
+    (
+        b"PUT / HTTP/1.1\r\nContent-Length: 1048577\r\n\r\n",
+        false,
+        Fatal(TooLarge),
+    ),
+    (
+        b"PUT / HTTP/1.1\r\nContent-Length: 1048577\r\n\r\n",
+        true,
+        Fatal(TooLarge),
+    ),
+    // a body in chunks
+    (
+        b"PUT / HTTP/1.1\r\nTransfer-Encoding: chunked\r\n\r\n",
+        false,
+        Fatal(Chunked),
+    ),
+    (
+        b"PUT / HTTP/1.1\r\ntransfer-encoding: identity\r\nContent-Length: 3\r\n\r\nabc",
+        false,
+        Fatal(Chunked),
+    ),
+    (
+        b"PUT / HTTP/1.1\r\nTransfer-Encoding:\r\nTransfer-Encoding:\r\n\r\n",
+        false,
+        Fatal(Chunked),
+    ),
+    (
+        b"PUT / HTTP/1.1\r\nContent-Length: 1048577\r\nTransfer-Encoding: chunked\r\n\r\n",
+        false,
+        Fatal(Chunked),
+    ),
+    (
+        b"PUT / HTTP/1.1\r\nContent-Length: x\r\nTransfer-Encoding: chunked\r\n\r\n",
+        false,
+        Fatal(BadHead),
+    ),
+    (
+        b"PUT / HTTP/1.1\r\nContent-Length: 1\r\nContent-Length: 1\r\nTransfer-Encoding: chunked\r\n\r\n",
+        false,
+        Fatal(BadHead),
+    ),
+    // no head stands behind the first empty line
+    (
+        b"\r\nno head\r\n\r\nGET / HTTP/1.1\r\n\r\n",
+        false,
+        Fatal(BadHead),
+    ),
 ];
 
-fn name(next: &Next) -> &'static str {
+const NONE: &[u8] = b"(none)";
+
+const TWICE: &[u8] = b"(twice)";
+
+/// The lines behind the start line of HTTP/1.1, whether the connection is closed, and what the four fields are given: the
+/// language, the version, the inheritance and the minimal front.
+const FIELDS: [(&[u8], bool, [&[u8]; 4]); 17] = [
+    (b"", false, [NONE, NONE, NONE, NONE]),
+    (b"Connection: close\r\n", true, [NONE, NONE, NONE, NONE]),
+    (
+        b"connection: keep-alive,\t CLOSE \t,x\r\n",
+        true,
+        [NONE, NONE, NONE, NONE],
+    ),
+    (b"Connection: Close,\r\n", true, [NONE, NONE, NONE, NONE]),
+    (
+        b"Connection: keep-alive\r\nConnection: x, close\r\n",
+        true,
+        [NONE, NONE, NONE, NONE],
+    ),
+    (b"Connection: closed\r\n", false, [NONE, NONE, NONE, NONE]),
+    (
+        b"Connection: clo se, aclose, close;q=1,,\r\n",
+        false,
+        [NONE, NONE, NONE, NONE],
+    ),
+    (b"Connection:\r\n", false, [NONE, NONE, NONE, NONE]),
+    (
+        b"X-Connection: close\r\nA: close\r\n",
+        false,
+        [NONE, NONE, NONE, NONE],
+    ),
+    (b"x-language-id: 1\r\n", false, [b"1", NONE, NONE, NONE]),
+    (
+        b"X-LANGUAGE-ID: \t 1 2\t\r\n",
+        false,
+        [b"1 2", NONE, NONE, NONE],
+    ),
+    (
+        b"X-Version-Id: 3\r\nX-Inheritance: off\r\nX-Min-Front: 44\r\n",
+        false,
+        [NONE, b"3", b"off", b"44"],
+    ),
+    (
+        b"x-language-id: 1\r\nx-language-id: 1\r\n",
+        false,
+        [TWICE, NONE, NONE, NONE],
+    ),
+    (
+        b"x-version-id: 1\r\nX-VERSION-ID: 2\r\n",
+        false,
+        [NONE, TWICE, NONE, NONE],
+    ),
+    (
+        b"x-inheritance:\r\nA: b\r\nX-inheritance:\r\n",
+        false,
+        [NONE, NONE, TWICE, NONE],
+    ),
+    (
+        b"x-min-front: 1\r\nx-min-front: 2\r\nx-min-front: 3\r\n",
+        false,
+        [NONE, NONE, NONE, TWICE],
+    ),
+    (
+        b"x-min-front:\r\nx_version_id: 1\r\nx-language: 1\r\n",
+        false,
+        [NONE, NONE, NONE, b""],
+    ),
+];
+
+fn outcome(next: &Next) -> Seen {
     match next {
-        Next::Whole { .. } => "whole",
-        Next::More => "more",
-        Next::Nothing => "nothing",
-        Next::Cut => "cut",
-        Next::Fatal(_) => "fatal",
+        Next::Whole { used, .. } => Whole(*used),
+        Next::More => Seen::More,
+        Next::Nothing => Seen::Nothing,
+        Next::Cut => Seen::Cut,
+        Next::Fatal(fault) => Fatal(*fault),
     }
 }
 
-fn expect_parts(
-    rt: &impl Abort,
-    bytes: &[u8],
-    method: &[u8],
-    target: &[u8],
-    body: &[u8],
-    size: usize,
-) {
+#[test]
+fn each_front_is_cut(rt: HostRuntime) {
+    for (bytes, ended, wanted) in CUTS {
+        assert_eq!(rt; outcome(&next_request(bytes, ended)), wanted);
+    }
+}
+
+fn told<'b>(given: Given<'b>) -> &'b [u8] {
+    match given {
+        Given::Missing => NONE,
+        Given::Once(value) => value,
+        Given::Twice => TWICE,
+    }
+}
+
+fn expect_fields(rt: &impl Abort, bytes: &[u8], closing: bool, fields: [&[u8]; 4]) {
     match next_request(bytes, false) {
-        Next::Whole {
-            head,
-            body: found,
-            used,
-        } => {
-            assert_eq!(rt; used, size);
-            assert_eq!(rt; head.method, method);
-            assert_eq!(rt; head.target, target);
-            assert!(rt; !head.closing);
-            assert_eq!(rt; found, body);
+        Next::Whole { head, body, used } => {
+            assert_eq!(rt; used, bytes.len());
+            assert_eq!(rt; head.closing, closing);
+            assert_eq!(rt; told(head.language), fields[0]);
+            assert_eq!(rt; told(head.version), fields[1]);
+            assert_eq!(rt; told(head.inheritance), fields[2]);
+            assert_eq!(rt; told(head.min_front), fields[3]);
+            assert!(rt; body.is_empty());
         }
         _ => panic!(rt; "no whole request"),
     }
 }
 
 #[test]
-fn each_form_is_whole_whatever_follows(rt: HostRuntime) -> Result<(), Fail> {
-    let body =
-        b"[{\"op\":\"upsert\",\"entity\":\"category\",\"id\":\"0123456789abcdef0123456789abcdef\",\"fields\":{}}]";
-    let target = b"/row/category/00000000000000000000000000000001";
-    for more in [b"".as_slice(), b"GET ", b"\x00\xff", READ] {
-        let mut write = Vec::from_slice(rt.alloc(), WRITE)?;
-        write.extend_from_slice(more)?;
-        expect_parts(&rt, &write, b"POST", b"/sync", body, 132);
-        let mut read = Vec::from_slice(rt.alloc(), READ)?;
-        read.extend_from_slice(more)?;
-        expect_parts(&rt, &read, b"GET", target, b"", 63);
+fn each_field_is_found(rt: HostRuntime) -> Result<(), Fail> {
+    for (lines, closing, fields) in FIELDS {
+        let mut bytes = Vec::from_slice(rt.alloc(), b"GET / HTTP/1.1\r\n")?;
+        bytes.extend_from_slice(lines)?;
+        bytes.extend_from_slice(b"\r\n")?;
+        expect_fields(&rt, &bytes, closing, fields);
     }
+    expect_fields(
+        &rt,
+        b"GET / HTTP/1.0\r\n\r\n",
+        true,
+        [NONE, NONE, NONE, NONE],
+    );
+    expect_fields(
+        &rt,
+        b"GET / HTTP/1.0\r\nConnection: keep-alive\r\n\r\n",
+        true,
+        [NONE, NONE, NONE, NONE],
+    );
     Ok(())
 }
 
-fn expect_waits(rt: &impl Abort, form: &[u8]) {
-    for n in 0..form.len() {
-        let ended = if n == 0 { "nothing" } else { "cut" };
-        assert_eq!(rt; name(&next_request(&form[..n], false)), "more", "at {n}");
-        assert_eq!(rt; name(&next_request(&form[..n], true)), ended, "at {n}");
-    }
-    assert_eq!(rt; name(&next_request(form, true)), "whole");
-}
-
 #[test]
-fn a_form_is_waited_for_at_every_length(rt: HostRuntime) {
-    expect_waits(&rt, WRITE);
-    expect_waits(&rt, READ);
-}
-
-#[test]
-fn one_wrong_byte_is_fatal(rt: HostRuntime) -> Result<(), Fail> {
-    for form in [WRITE.as_slice(), READ] {
-        for n in 0..form.len() {
-            let mut bytes = Vec::from_slice(rt.alloc(), form)?;
-            bytes[n] ^= 128;
-            assert_eq!(rt; name(&next_request(&bytes, false)), "fatal", "at {n}");
-            assert_eq!(rt; name(&next_request(&bytes, true)), "fatal", "at {n}");
+fn a_request_has_its_parts(rt: HostRuntime) {
+    let bytes =
+        b"\r\nM-POST /a?b=%20 HTTP/1.1\r\nHost: x\r\nContent-Length: 4\r\n\r\n\0\r\n\nGET / HTTP/1.1\r\n\r\n";
+    match next_request(bytes, true) {
+        Next::Whole { head, body, used } => {
+            assert_eq!(rt; head.method, b"M-POST".as_slice());
+            assert_eq!(rt; head.target, b"/a?b=%20".as_slice());
+            assert!(rt; !head.closing);
+            assert_eq!(rt; body, b"\0\r\n\n".as_slice());
+            assert_eq!(rt; used, 62);
         }
+        _ => panic!(rt; "no whole request"),
     }
-    Ok(())
 }
 
-#[test]
-fn other_requests_are_fatal(rt: HostRuntime) {
-    for bytes in NO_REQUESTS {
-        assert_eq!(rt; name(&next_request(bytes, false)), "fatal");
-        assert_eq!(rt; name(&next_request(bytes, true)), "fatal");
+/// A front, a piece so many times, and a back.
+fn repeated(
+    rt: &HostRuntime,
+    front: &[u8],
+    piece: &[u8],
+    times: usize,
+    back: &[u8],
+) -> Result<Vec<u8>, Fail> {
+    let mut bytes = Vec::from_slice(rt.alloc(), front)?;
+    for _ in 0..times {
+        bytes.extend_from_slice(piece)?;
     }
+    bytes.extend_from_slice(back)?;
+    Ok(bytes)
+}
+
+/// A front, a piece, how many times it stands there, a back, and what comes of them.
+const LONG: [(&[u8], &[u8], usize, &[u8], Seen); 9] = [
+    (b"", b"a", 16_383, b"", Seen::More),
+    (b"", b"a", 16_384, b"", Fatal(BadHead)),
+    (b"", b"\r\n.", 5_461, b"", Seen::More),
+    (b"", b"\r\n.", 5_462, b"", Fatal(BadHead)),
+    (b"GET /", b"a", 16_366, b" HTTP/1.1\r\n\r\n", Whole(16_384)),
+    (b"GET /", b"a", 16_367, b" HTTP/1.1\r\n\r\n", Fatal(BadHead)),
+    (b"GET / HTTP/1.1\r\n", b"a:\r\n", 64, b"\r\n", Whole(274)),
+    (
+        b"GET / HTTP/1.1\r\n",
+        b"a:\r\n",
+        65,
+        b"\r\n",
+        Fatal(BadHead),
+    ),
+    (
+        b"GET / HTTP/1.1\r\ncontent-length: 20000\r\n\r\n",
+        b"\r\n",
+        10_001,
+        b"",
+        Whole(20_041),
+    ),
+];
+
+#[test]
+fn heads_have_their_limits(rt: HostRuntime) -> Result<(), Fail> {
+    for (front, piece, times, back, wanted) in LONG {
+        let bytes = repeated(&rt, front, piece, times, back)?;
+        assert_eq!(rt; outcome(&next_request(&bytes, false)), wanted);
+    }
+    Ok(())
 }
 
 fn expect_bytes(rt: &impl Abort, given: &[u8], wanted: &[u8]) {

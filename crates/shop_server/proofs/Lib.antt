@@ -2,7 +2,8 @@ pub mod Buffers
 pub mod Lines
 pub mod Progress
 pub mod Settled
-pub mod Asking
 pub mod Words
 pub mod Folds
 pub mod Outputs
+pub mod RowLaws
+pub mod FormWords

@@ -1,11 +1,11 @@
 -- What is written is a front of the output for the whole input.
 use Rattle.std.proofs.Common.{◌≡◌, ℕ, zero, suc, ◌⊎◌, List, [], ◌∷◌, ◌++◌, drop, refl, sym, ap, ◌∙◌, subst, inl, inr, append_assoc, append-nil, Option, Some, None}
 use Rattle.std.specs.Io.KnownBytes.{Consumes, Appends, IsAtEnd}
-use Rattle.shop_http.specs.declared.next.HeadFault.{HeadFault}
+use Rattle.shop_server.specs.declared.form.Refusal.{Refusal}
 use Rattle.shop_http.specs.Requests.{Request, Asked, Cuts, Front, whole, Ending, open_at, refused, closing, spent, requests, IsCut}
-use Rattle.shop_http.specs.Forms.{cut}
+use Rattle.shop_server.specs.Cutting.{cut}
 use Rattle.shop_http.specs.Laws.{longest}
-use Rattle.shop_http.proofs.Cutting.{the_cut}
+use Rattle.shop_server.specs.Lawful.{the_cut}
 use Rattle.shop_server.specs.declared.session.Ended.{Ended}
 use Rattle.shop_server.specs.declared.session.Ended.TheVariants.{Closed, HeadRefused, Spent, Truncated, ReadFault, WriteFault, NoMemory}
 use Rattle.shop_server.specs.Session.{Session, Answers, IsFront, most_requests}
@@ -78,10 +78,10 @@ module _ (each : (bytes : List ℕ) (r : Request) (used : ℕ) → cut bytes ≡
   abbrev Ran : Ended → Type 0
   Ran ended = Session Gives fatal_text cut most_requests no_rows last (Some all) left' (Some before) written' ended
 
-  abbrev cuts_of : List ℕ → Cuts HeadFault
+  abbrev cuts_of : List ℕ → Cuts Refusal
   cuts_of bytes = requests cut most_requests bytes
 
-  output_of : (cuts : Cuts HeadFault) (asked : List Asked) (body output : List ℕ) (end : State) → Answers Gives no_rows asked body end → asked ≡ cuts.asked
+  output_of : (cuts : Cuts Refusal) (asked : List Asked) (body output : List ℕ) (end : State) → Answers Gives no_rows asked body end → asked ≡ cuts.asked
       → output ≡ body ++ fatal_end cuts.ending → IsOutput cuts output
   output_of cuts asked body output end h e o =
       let fold = answers_fold no_rows end asked body h in
@@ -106,7 +106,7 @@ module _ (each : (bytes : List ℕ) (r : Request) (used : ℕ) → cut bytes ≡
       (output, out, output_of (cuts_of all) (cuts_of all).asked body output others.1 answers refl refl, told_more before written' out a, front_trans out full output f more, inl short)
 
   -- the requests of all bytes are those of the bytes read, where the list has come to an end
-  same_cuts : (ended : Ended) (s : Ran ended) (e : Ending HeadFault) → (cuts_of s.got).ending ≡ e → IsSettled e → cuts_of all ≡ cuts_of s.got
+  same_cuts : (ended : Ended) (s : Ran ended) (e : Ending Refusal) → (cuts_of s.got).ending ≡ e → IsSettled e → cuts_of all ≡ cuts_of s.got
   same_cuts ended s e h k =
       let r = told_rest all s.got left' s.read in
       ap cuts_of r.1 ∙ requests_stay cut longest the_cut most_requests s.got r.0 (subst IsSettled (sym h) k)
@@ -121,7 +121,7 @@ module _ (each : (bytes : List ℕ) (r : Request) (used : ℕ) → cut bytes ≡
       subst (λ bs. IsFront (cuts_of s.got).asked (cuts_of bs).asked) (sym r.1) (requests_grow cut longest the_cut most_requests s.got r.0)
 
   -- everything was answered and nothing more is due
-  all_answered : (ended : Ended) (s : Ran ended) (number : ℕ) (e : Ending HeadFault) → fatal_end e ≡ [] → s.asked ≡ (cuts_of s.got).asked → Answers Gives no_rows s.asked s.out last
+  all_answered : (ended : Ended) (s : Ran ended) (number : ℕ) (e : Ending Refusal) → fatal_end e ≡ [] → s.asked ≡ (cuts_of s.got).asked → Answers Gives no_rows s.asked s.out last
       → (cuts_of s.got).ending ≡ e → cuts_of all ≡ cuts_of s.got → HasWritten all before written' number
   all_answered ended s number e none h a is same =
       whole_output number s.out s.out s.asked s.wrote a (h ∙ ap (λ c. c.asked) (sym same))
@@ -175,7 +175,7 @@ run_written each all before left left' written written' number told begun h =
 
 -- ---- the status
 
-number_by : (ending : Ending HeadFault) (ended : Ended) → MayEnd ending ended → IsCutShort (number_of ended) ⊎ (number_of ended ≡ number_at ending)
+number_by : (ending : Ending Refusal) (ended : Ended) → MayEnd ending ended → IsCutShort (number_of ended) ⊎ (number_of ended ≡ number_at ending)
 number_by ending ended (inl e) = inl (inl (ap number_of e))
 number_by ending ended (inr (inl e)) = inl (inr (inl (ap number_of e)))
 number_by ending ended (inr (inr (inl e))) = inl (inr (inr (ap number_of e)))
@@ -187,6 +187,6 @@ pub run_number : (all : List ℕ) (left left' written written' : Option (List �
 run_number all left left' written written' number told h =
     let session : Session Gives fatal_text cut most_requests no_rows h.2 (Some all) left' written written' h.0 =
     subst (λ l. Session Gives fatal_text cut most_requests no_rows h.2 l left' written written' h.0) told h.3 in
-    let ending : Ending HeadFault = (requests cut most_requests all).ending in
+    let ending : Ending Refusal = (requests cut most_requests all).ending in
     subst (λ n. IsCutShort n ⊎ (n ≡ number_at ending)) (sym h.1)
     (number_by ending h.0 (outcome Gives fatal_text cut longest the_cut most_requests no_rows h.2 all left' written written' h.0 session))

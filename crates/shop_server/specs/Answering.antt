@@ -1,15 +1,15 @@
 -- What the shop holds, as a plain list of rows, and how it answers a request of one of the two forms.
-use Rattle.std.specs.Prelude.{ℕ, ◌≡◌, ◌≤◌, ◌+◌, ◌^◌, ◌++◌, ◌⊎◌, Bool, true, List, [], ◌∷◌, length, codes, if◌then◌else◌, nat_le, Option, Some, None, is_some}
+use Rattle.std.specs.Prelude.{ℕ, ◌≡◌, ◌≤◌, ◌+◌, ◌^◌, ◌++◌, ◌⊎◌, Bool, true, List, [], ◌∷◌, length, codes, if◌then◌else◌, nat_le, Option, Some, None, is_some, unwrap_or}
 use Rattle.std.specs.Fmt.{decimal}
 use Rattle.std.specs.Ordering.{nat_cmp}
 use Rattle.std.specs.Map.{lookup}
 use Rattle.std.specs.BTreeMap.{insert_entry, is_at}
-use Rattle.shop_defs.specs.Ids.{id_of, id_text}
+use Rattle.shop_defs.specs.Ids.{id_text}
 use Rattle.shop_http.specs.Requests.{Request, Asked}
-use Rattle.shop_http.specs.Forms.{write_request, read_request}
 use Rattle.shop_http.specs.Responses.{response_text, no_memory_text}
 use Rattle.shop_server.specs.declared.form.Form.{Form}
 use Rattle.shop_server.specs.declared.form.Form.TheVariants.{Insert, Show}
+use Rattle.shop_server.specs.Cutting.{form_of}
 use Rattle.shop_server.specs.Session.{Answers}
 use Rattle.shop_server.specs.declared.category.Category.{Category}
 
@@ -39,10 +39,9 @@ with_category rows id = if is_some (category_at rows id) then rows else insert_e
 
 -- ---- what is asked
 
--- the request is of that form, with the id that its digits spell
+-- the request is of that form
 abbrev pub IsOf : Request → Form → Type 0
-IsOf r (Insert id) = (digits : List ℕ) × (id_of digits ≡ Some id) × (r ≡ write_request digits)
-IsOf r (Show id) = (digits : List ℕ) × (id_of digits ≡ Some id) × (r ≡ read_request digits)
+IsOf r form = form_of r ≡ Some form
 
 abbrev pub IsServed : Request → Type 0
 IsServed r = (form : Form) × IsOf r form
@@ -146,3 +145,8 @@ RepliesAreAFold = (old new : State) (asked : List Asked) (out : List ℕ) → An
 -- As many writes are accepted at most as there are requests: so where none was accepted before, `history_full` never comes.
 abbrev pub FewAreAccepted : Type 0
 FewAreAccepted = (old new : State) (asked : List Asked) (out : List ℕ) → Answers Gives old asked out new → new.accepted ≤ old.accepted + length asked
+
+-- After a write its id has a row: the one that was there, or a new one. All other ids have what they had.
+pub record RowsAreKept : Type 0 where
+  pub same : (rows : Rows) (id : ℕ) → category_at (with_category rows id) id ≡ Some (unwrap_or (category_at rows id) new_category)
+  pub others : (rows : Rows) (id q : ℕ) → (q ≡ id → ⊥) → category_at (with_category rows id) q ≡ category_at rows q

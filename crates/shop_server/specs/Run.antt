@@ -2,9 +2,9 @@
 use Rattle.std.specs.Prelude.{ℕ, ◌≡◌, ◌++◌, ◌⊎◌, List, [], ◌∷◌, map, codes, string_bytes, Option, Some}
 use Rattle.std.specs.declared.string.String.{String}
 use Rattle.std.specs.declared.alloc.Global.{Global}
-use Rattle.shop_http.specs.declared.next.HeadFault.{HeadFault}
+use Rattle.shop_server.specs.declared.form.Refusal.{Refusal}
 use Rattle.shop_http.specs.Requests.{Cuts, Ending, open_at, refused, closing, spent, requests}
-use Rattle.shop_http.specs.Forms.{cut}
+use Rattle.shop_server.specs.Cutting.{cut}
 use Rattle.shop_http.specs.Responses.{not_built_text}
 use Rattle.shop_server.specs.declared.session.Ended.{Ended}
 use Rattle.shop_server.specs.declared.session.Ended.TheVariants.{Closed, HeadRefused, Spent, Truncated, ReadFault, WriteFault, NoMemory}
@@ -27,11 +27,11 @@ number_of Spent = 10
 number_of HeadRefused = 12
 
 -- the status for each end of a list of requests behind which no more bytes come
-abbrev pub number_at : Ending HeadFault → ℕ
+abbrev pub number_at : Ending Refusal → ℕ
 number_at ending = number_of (ended_of ending)
 
 -- what no request is, is answered by this, whatever it is
-abbrev pub fatal_text : HeadFault → List ℕ
+abbrev pub fatal_text : Refusal → List ℕ
 fatal_text fault = not_built_text
 
 -- a connection over some bytes read and written, which begins with no rows
@@ -40,14 +40,14 @@ HasRun left left' written written' number =
     (ended : Ended) × (number ≡ number_of ended) × (last : State) × Session Gives fatal_text cut most_requests no_rows last left left' written written' ended
 
 -- the fatal reply, where it is due
-abbrev pub fatal_end : Ending HeadFault → List ℕ
+abbrev pub fatal_end : Ending Refusal → List ℕ
 fatal_end (open_at bytes) = []
 fatal_end (refused fault) = fatal_text fault
 fatal_end closing = []
 fatal_end spent = []
 
 -- The whole output for a list of requests: the responses, one after the other, from no rows on, and the fatal reply where it is due.
-abbrev pub IsOutput : Cuts HeadFault → List ℕ → Type 0
+abbrev pub IsOutput : Cuts Refusal → List ℕ → Type 0
 IsOutput cuts output = (served : List Served) × AreServed cuts.asked served × (output ≡ replies no_rows served ++ fatal_end cuts.ending)
 
 -- at these statuses a fault or want of memory may have cut the output short

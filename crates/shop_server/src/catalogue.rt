@@ -1,7 +1,7 @@
 //! What the shop holds: its categories, and how many writes were accepted.
 ghost use Rattle.std.specs.Prelude.{◌≡◌, ◌≤◌, ◌^◌, ◌++◌, codes, decimal, IfOk, OnErr};
 ghost use Rattle.shop_defs.specs.Ids.{id_text};
-ghost use Rattle.shop_server.specs.Answering.{State, no_rows, with_category, category_at, answer_text, after, flag_text, done_body, row_body, no_such_row_body, RepliesAreAFold, FewAreAccepted};
+ghost use Rattle.shop_server.specs.Answering.{State, no_rows, with_category, category_at, answer_text, after, flag_text, done_body, row_body, no_such_row_body, RepliesAreAFold, FewAreAccepted, RowsAreKept};
 
 use crate::category::Category;
 use crate::form::Form;
@@ -169,4 +169,9 @@ pub fn law_of_the_replies()
 /// A connection accepts at most as many writes as it has requests.
 pub fn law_of_the_count()
     ensures { FewAreAccepted }
+{}
+
+/// After a write its id has a row, and all other ids have what they had.
+pub fn law_of_the_rows()
+    ensures { RowsAreKept }
 {}

@@ -8,3 +8,10 @@ pub enum Form {
     /// To be shown the category with this id.
     Show(u128),
 }
+
+/// Why what stands at the front of a stream isn't answered.
+#[derive(Clone, Copy, Debug, PartialEq, Eq)]
+pub enum Refusal {
+    /// It is no request of a form that is served, or none at all.
+    NotBuilt,
+}

@@ -1,7 +1,7 @@
 //! The program's call: words, a source, a sink, a keeper and a clock.
 ghost use Rattle.std.specs.Prelude.{◌≡◌, ◌⊎◌, ◌↔◌, IsTrue, ℕ, List, Some, map, string_bytes};
 ghost use Rattle.shop_http.specs.Requests.{requests};
-ghost use Rattle.shop_http.specs.Forms.{cut};
+ghost use Rattle.shop_server.specs.Cutting.{cut};
 ghost use Rattle.shop_outside.specs.Causes.{Rose};
 ghost use Rattle.shop_server.specs.Run.{IsRun, HasRun, HasWritten, IsCutShort, fatal_text, number_of, number_at};
 ghost use Rattle.shop_server.specs.Session.{Session, most_requests};

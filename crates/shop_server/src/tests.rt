@@ -32,6 +32,43 @@ const MISSING: &[u8] =
 const NOT_BUILT: &[u8] =
     b"HTTP/1.1 501 Not Implemented\r\ncontent-type: application/json\r\ncontent-length: 21\r\nconnection: close\r\n\r\n{\"error\":\"not_built\"}";
 
+/// The same write and read as `curl` sends them, with fields that say nothing of the answer.
+const CURL_WRITE: &[u8] =
+    b"POST /sync HTTP/1.1\r\nHost: 127.0.0.1:8080\r\nUser-Agent: curl/8.5.0\r\nAccept: */*\r\ncontent-length:89\r\nContent-Type: application/json\r\n\r\n[{\"op\":\"upsert\",\"entity\":\"category\",\"id\":\"00000000000000000000000000000010\",\"fields\":{}}]";
+
+const CURL_READ: &[u8] =
+    b"GET /row/category/00000000000000000000000000000010 HTTP/1.1\r\nHost: 127.0.0.1:8080\r\nUser-Agent: curl/8.5.0\r\nAccept: */*\r\n\r\n";
+
+/// A read with an empty line before it, lines that end with LF alone, and a body, which is ignored.
+const ODD_READ: &[u8] =
+    b"\r\nGET /row/category/00000000000000000000000000000010 HTTP/1.1\nContent-Length: 3\n\nabc";
+
+/// Requests of no form.
+const CLOSING_READ: &[u8] =
+    b"GET /row/category/00000000000000000000000000000010 HTTP/1.1\r\nConnection: keep-alive, Close\r\n\r\n";
+
+const OLD_READ: &[u8] = b"GET /row/category/00000000000000000000000000000010 HTTP/1.0\r\n\r\n";
+
+const DRAFT_READ: &[u8] =
+    b"GET /row/category/00000000000000000000000000000010 HTTP/1.1\r\nX-Version-Id: 00000000000000000000000000000070\r\n\r\n";
+
+const LONG_PATH: &[u8] = b"GET /row/category/000000000000000000000000000000100 HTTP/1.1\r\n\r\n";
+
+const PUT: &[u8] = b"PUT /row/category/00000000000000000000000000000010 HTTP/1.1\r\n\r\n";
+
+const NIL_WRITE: &[u8] =
+    b"POST /sync HTTP/1.1\r\nContent-Length: 89\r\n\r\n[{\"op\":\"upsert\",\"entity\":\"category\",\"id\":\"00000000000000000000000000000000\",\"fields\":{}}]";
+
+const SPACED_WRITE: &[u8] =
+    b"POST /sync HTTP/1.1\r\nContent-Length: 90\r\n\r\n[{\"op\":\"upsert\",\"entity\":\"category\",\"id\":\"00000000000000000000000000000010\",\"fields\":{}} ]";
+
+/// Heads that are refused whatever follows.
+const CHUNKED: &[u8] = b"POST /sync HTTP/1.1\r\nTransfer-Encoding: chunked\r\n\r\n";
+
+const TOO_LARGE: &[u8] = b"POST /sync HTTP/1.1\r\nContent-Length: 1048577\r\n\r\n";
+
+const NO_HEAD: &[u8] = b"hello\r\n\r\n";
+
 /// What a run is handed, and what it must write and end with.
 struct Case {
     input: [&'static [u8]; 3],
@@ -39,7 +76,7 @@ struct Case {
     status: u8,
 }
 
-const CASES: [Case; 8] = [
+const CASES: [Case; 21] = [
     Case {
         input: [WRITE, READ, b""],
         output: [WRITTEN, SHOWN, b""],
@@ -77,6 +114,71 @@ const CASES: [Case; 8] = [
     },
     Case {
         input: [WRITE, FRONT, READ],
+        output: [WRITTEN, NOT_BUILT, b""],
+        status: 12,
+    },
+    Case {
+        input: [CURL_WRITE, CURL_READ, b""],
+        output: [WRITTEN, SHOWN, b""],
+        status: 0,
+    },
+    Case {
+        input: [WRITE, ODD_READ, READ],
+        output: [WRITTEN, SHOWN, SHOWN],
+        status: 0,
+    },
+    Case {
+        input: [WRITE, b"\r\n", b""],
+        output: [WRITTEN, b"", b""],
+        status: 6,
+    },
+    Case {
+        input: [WRITE, CLOSING_READ, READ],
+        output: [WRITTEN, NOT_BUILT, b""],
+        status: 12,
+    },
+    Case {
+        input: [WRITE, OLD_READ, READ],
+        output: [WRITTEN, NOT_BUILT, b""],
+        status: 12,
+    },
+    Case {
+        input: [WRITE, DRAFT_READ, READ],
+        output: [WRITTEN, NOT_BUILT, b""],
+        status: 12,
+    },
+    Case {
+        input: [WRITE, LONG_PATH, READ],
+        output: [WRITTEN, NOT_BUILT, b""],
+        status: 12,
+    },
+    Case {
+        input: [WRITE, PUT, READ],
+        output: [WRITTEN, NOT_BUILT, b""],
+        status: 12,
+    },
+    Case {
+        input: [WRITE, NIL_WRITE, READ],
+        output: [WRITTEN, NOT_BUILT, b""],
+        status: 12,
+    },
+    Case {
+        input: [WRITE, SPACED_WRITE, READ],
+        output: [WRITTEN, NOT_BUILT, b""],
+        status: 12,
+    },
+    Case {
+        input: [WRITE, CHUNKED, READ],
+        output: [WRITTEN, NOT_BUILT, b""],
+        status: 12,
+    },
+    Case {
+        input: [WRITE, TOO_LARGE, READ],
+        output: [WRITTEN, NOT_BUILT, b""],
+        status: 12,
+    },
+    Case {
+        input: [WRITE, NO_HEAD, READ],
         output: [WRITTEN, NOT_BUILT, b""],
         status: 12,
     },

@@ -1,17 +1,18 @@
 //! The requests of the two forms: cut off a stream, and answered from a catalogue.
-ghost use Rattle.std.specs.Prelude.{◌≡◌};
-ghost use Rattle.shop_http.specs.Forms.{cut};
+ghost use Rattle.std.specs.Prelude.{◌≡◌, IsSome, Some};
 ghost use Rattle.shop_http.specs.Laws.{longest};
-ghost use Rattle.shop_http.proofs.Cutting.{the_cut};
+ghost use Rattle.shop_server.specs.Lawful.{the_cut};
 ghost use Rattle.shop_server.specs.Answering.{Gives, IsServed};
+ghost use Rattle.shop_server.specs.Cutting.{cut};
 ghost use Rattle.shop_server.specs.Run.{fatal_text};
 
 use crate::answerer::Answerer;
 use crate::asked::form_of;
 use crate::catalogue::Catalogue;
+use crate::form::Refusal;
 use crate::framing::Framing;
 use shop_defs::{List, NoMemory};
-use shop_http::{Head, HeadFault, Next, next_request, not_built_response};
+use shop_http::{Head, Next, next_request, not_built_response};
 use std::alloc::Global;
 
 /// The two forms of a request that are served. All else is refused.
@@ -19,7 +20,7 @@ use std::alloc::Global;
 pub struct TwoForms;
 
 impl Framing for TwoForms {
-    type Fault = HeadFault;
+    type Fault = Refusal;
 
     ghost cut = { cut };
 
@@ -27,11 +28,21 @@ impl Framing for TwoForms {
 
     ghost fatal = { fatal_text };
 
-    fn next<'b>(&self, bytes: &'b [u8], ended: bool) -> Next<'b, HeadFault> {
-        next_request(bytes, ended)
+    #[tactic(auto, unfolding(crate::specs::Cutting::cut))]
+    fn next<'b>(&self, bytes: &'b [u8], ended: bool) -> Next<'b, Refusal> {
+        match next_request(bytes, ended) {
+            Next::Whole { head, body, used } => match form_of(&head, body) {
+                Some(_) => Next::Whole { head, body, used },
+                None => Next::Fatal(Refusal::NotBuilt),
+            },
+            Next::More => Next::More,
+            Next::Nothing => Next::Nothing,
+            Next::Cut => Next::Cut,
+            Next::Fatal(_) => Next::Fatal(Refusal::NotBuilt),
+        }
     }
 
-    fn refusal(&self, _fault: HeadFault) -> &'static [u8] {
+    fn refusal(&self, _fault: Refusal) -> &'static [u8] {
         not_built_response()
     }
 
@@ -50,7 +61,9 @@ impl Answerer for Catalogue {
         body: &[u8],
         last: bool,
     ) -> Result<List<u8>, NoMemory> {
-        let form = form_of(head, body);
-        self.reply(alloc, form, last)
+        match form_of(head, body) {
+            Some(form) => self.reply(alloc, form, last),
+            None => unreachable!(),
+        }
     }
 }

@@ -1,24 +1,33 @@
-use Rattle.std.proofs.Common.{sym}
-use Rattle.shop_http.proofs.Cutting.{cut_write, cut_part, cut_read, cut_read_part, cut_bad, next_whole, next_unfinished, write_long, read_long}
+use Rattle.std.proofs.Common.{◌≡◌, ◌∙◌, ℕ, Option, Some, None, sym, ap, List, take, arith}
+use Rattle.std.proofs.lemmas.List.{take_all}
+use Rattle.shop_http.specs.Heads.{head_end}
+use Rattle.shop_http.proofs.Cutting.{cut_waits, front_end, front_endless, next_unfinished}
 use Rattle.shop_http.proofs.next.next_request.Goals as goal
 
-pub whole_write-requires-clause-long : goal.whole_write-requires-clause-long
-whole_write-requires-clause-long c = write_long _ (sym c.in-Full.ensures)
+-- what was found in the front
+found : (bytes front : List ℕ) (r o : Option ℕ) → r ≡ o → r ≡ head_end front → front ≡ take 16384 bytes → head_end (take 16384 bytes) ≡ o
+found bytes front r o is ensures e = ap head_end (sym e) ∙ sym ensures ∙ is
 
-pub whole_read-requires-clause-long : goal.whole_read-requires-clause-long
-whole_read-requires-clause-long c = read_long _ (sym c.in-Miss.ensures) (sym c.in-Full-fit_form.ensures)
+pub with_head-requires-clause-ends : goal.with_head-requires-clause-ends
+with_head-requires-clause-ends c =
+    (front_end c.args.bytes.now c.in-Some.end (found c.args.bytes.now c.front.result.now c.head_end.result (Some c.in-Some.end) c.in-Some.is c.head_end.ensures c.front.ensures)).0
 
-pub returns-in-Full : goal.returns-in-Full
-returns-in-Full c = next_whole _ c.args.ended _ _ _ c.whole_write.ensures (cut_write _ (sym c.in-Full.ensures))
+pub with_head-requires-clause-within : goal.with_head-requires-clause-within
+with_head-requires-clause-within c =
+    (front_end c.args.bytes.now c.in-Some.end (found c.args.bytes.now c.front.result.now c.head_end.result (Some c.in-Some.end) c.in-Some.is c.head_end.ensures c.front.ensures)).1
 
-pub returns-in-Short : goal.returns-in-Short
-returns-in-Short c = next_unfinished _ c.args.ended _ c.unfinished.ensures (cut_part _ (sym c.in-Short.ensures))
+pub with_head-requires-clause-fits : goal.with_head-requires-clause-fits
+with_head-requires-clause-fits c =
+    (front_end c.args.bytes.now c.in-Some.end (found c.args.bytes.now c.front.result.now c.head_end.result (Some c.in-Some.end) c.in-Some.is c.head_end.ensures c.front.ensures)).2
 
-pub returns-in-Full-fit_form : goal.returns-in-Full-fit_form
-returns-in-Full-fit_form c = next_whole _ c.args.ended _ _ _ c.whole_read.ensures (cut_read _ (sym c.in-Miss.ensures) (sym c.in-Full-fit_form.ensures))
+pub returns-in-None : goal.returns-in-None
+returns-in-None c =
+    let none = found c.args.bytes.now c.front.result.now c.head_end.result None c.in-None.is c.head_end.ensures c.front.ensures in
+    let all : take 16384 c.args.bytes.now ≡ c.args.bytes.now = take_all 16384 c.args.bytes.now (omega (arith, c.if-bytes-lt-LONGEST_HEAD.true)) in
+    next_unfinished c.args.bytes.now c.args.ended c.unfinished.result c.unfinished.ensures
+    (cut_waits c.args.bytes.now (ap head_end (sym all) ∙ none) c.if-bytes-lt-LONGEST_HEAD.true)
 
-pub returns-in-Short-fit_form : goal.returns-in-Short-fit_form
-returns-in-Short-fit_form c = next_unfinished _ c.args.ended _ c.unfinished-in-Short-fit_form.ensures (cut_read_part _ (sym c.in-Miss.ensures) (sym c.in-Short-fit_form.ensures))
-
-pub returns-in-Miss-fit_form : goal.returns-in-Miss-fit_form
-returns-in-Miss-fit_form c = cut_bad _ (sym c.in-Miss.ensures) (sym c.in-Miss-fit_form.ensures)
+pub returns-in-None-2 : goal.returns-in-None-2
+returns-in-None-2 c =
+    front_endless c.args.bytes.now
+    (found c.args.bytes.now c.front.result.now c.head_end.result None c.in-None-2.is c.head_end.ensures c.front.ensures) c.if-bytes-lt-LONGEST_HEAD.false

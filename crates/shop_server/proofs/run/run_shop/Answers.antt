@@ -1,4 +1,4 @@
-use Rattle.shop_server.proofs.Asking.{cut_is_served}
+use Rattle.shop_server.specs.Lawful.{cut_is_served}
 use Rattle.shop_server.proofs.Outputs.{run_number, run_written}
 use Rattle.shop_server.proofs.run.run_shop.Goals as goal
 

@@ -1,0 +1,9 @@
+use Rattle.std.proofs.Common.{◌≡◌, ◌≤◌, length, take, reverse}
+use Rattle.httparse.specs.Grammar.{skip_ows}
+use Rattle.shop_http.proofs.fields.drop_ows.Given as goal
+
+abbrev pub invariant-loop-end : goal.invariant-loop-end
+invariant-loop-end l = (l.end ≤ length l.text) × (skip_ows (reverse l.text) ≡ skip_ows (reverse (take l.end l.text)))
+
+abbrev pub decreases-loop-end : goal.decreases-loop-end
+decreases-loop-end l = l.end
