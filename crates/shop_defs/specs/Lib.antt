@@ -1,3 +1,10 @@
 pub mod Entities
 pub mod Keys
 pub mod Ids
+pub mod Rows
+pub mod Joined
+pub mod Texts
+pub mod Tables
+pub mod Days
+pub mod Checks
+pub mod Operations

@@ -32,8 +32,26 @@ impl Copied for u8 {
     }
 }
 
+impl Copied for u32 {
+    fn copy(&self, _alloc: Global) -> Result<u32, NoMemory> {
+        Ok(*self)
+    }
+}
+
 impl Copied for u128 {
     fn copy(&self, _alloc: Global) -> Result<u128, NoMemory> {
+        Ok(*self)
+    }
+}
+
+impl Copied for i64 {
+    fn copy(&self, _alloc: Global) -> Result<i64, NoMemory> {
+        Ok(*self)
+    }
+}
+
+impl Copied for i128 {
+    fn copy(&self, _alloc: Global) -> Result<i128, NoMemory> {
         Ok(*self)
     }
 }

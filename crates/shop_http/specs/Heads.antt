@@ -1,6 +1,9 @@
 -- A request off the front of bytes, as RFC 9112 (sections 2 to 6) has it, with these departures:
--- a head has at most 16,384 bytes and 64 fields, and a body at most 1,048,576 bytes; a body sent in chunks is refused (section 7.1);
--- a second `Content-Length` field is refused even where its value is the same (section 6.3 lets a recipient merge them).
+-- a head has at most 16,384 bytes and 64 fields, and a body at most 1,048,576 bytes;
+-- a body with a transfer coding is refused (sections 6.1 and 7);
+-- a second `Content-Length` field, or a list in one, is refused even where the values are the same (section 6.3 lets a recipient merge them);
+-- HTTP/1.0 keeps no connection open (section 9.3 knows `keep-alive`);
+-- a field `Host` isn't asked for (section 3.2), and a target may be any text without spaces and control bytes.
 use Rattle.std.specs.Prelude.{ℕ, suc, ◌+◌, Bool, ◌||◌, ◌&&◌, ◌==◌, nat_lt, nat_le, List, [], ◌∷◌, length, take, drop, map, filter, codes, nat_eq, Option, Some, None, option_map, Result, Ok, Err, if◌then◌else◌}
 use Rattle.std.specs.List.{starts_with, list_all, list_any, slice_split}
 use Rattle.std.specs.Char.{is_ascii_digit}
@@ -23,9 +26,8 @@ empty_line bytes =
     else if starts_with nat_eq bytes (line_feed ∷ []) then 1
     else 0
 
--- How many bytes there are up to and with the first empty line behind a line end. An empty line before the start line is none
--- of these where it is the first thing there; so of the empty lines that may be skipped there (section 2.2) one is taken, and
--- with two the region has no start line.
+-- How many bytes there are up to and with the first empty line behind a line end. So one empty line before the start line is
+-- passed over (section 2.2); of two the second ends the region, which then is no head.
 unfoldable pub head_end : List ℕ → Option ℕ
 head_end [] = None
 head_end (b ∷ bytes) =
