@@ -1,5 +1,5 @@
 -- The fields of an operation that is read ascend by their numbers.
-use Rattle.std.proofs.Common.{◌≡◌, ℕ, ◌+◌, ◌<◌, ◌≤◌, true, false, Bool, List, [], ◌∷◌, Option, Some, None, refl, sym, ap, arith}
+use Rattle.std.proofs.Common.{◌≡◌, ℕ, ◌+◌, ◌<◌, true, false, Bool, List, [], ◌∷◌, Option, Some, None, refl, sym, arith}
 use Rattle.std.specs.Prelude.{◌&&◌, ◌==◌}
 use Rattle.std.specs.List.{AllByRecursion}
 use Rattle.std.specs.Ordering.{nat_cmp}
@@ -7,8 +7,6 @@ use Rattle.std.specs.Cmp.{nat_cmp_is}
 use Rattle.std.specs.declared.cmp.Ordering.TheVariants.{Less}
 use Rattle.std.proofs.lemmas.Bool.{eqb-true}
 use Rattle.keyed.specs.Keyed.{Ascends}
-use Rattle.shop_defs.specs.declared.entity.Entity.{Entity}
-use Rattle.shop_defs.specs.declared.entity.Entity.TheVariants as E
 use Rattle.shop_defs.specs.declared.value.Value.{Value}
 use Rattle.shop_defs.specs.declared.value.Raw.{Raw}
 use Rattle.shop_defs.specs.declared.op.RawOp.{RawOp}
@@ -16,42 +14,13 @@ use Rattle.shop_defs.specs.declared.table.EntityInfo.{EntityInfo}
 use Rattle.shop_defs.specs.declared.table.FieldInfo.{FieldInfo}
 use Rattle.shop_defs.specs.Texts.{field_text}
 use Rattle.shop_defs.specs.Tables.{fields_of}
-use Rattle.shop_defs.specs.Checks.{kept}
-use Rattle.shop_defs.specs.Operations.{Given, given, read_field, read_in, read}
+use Rattle.shop_defs.specs.Operations.{Given, given, read_in, read}
 use Rattle.shop_defs.proofs.TableLaws.{counts_from}
+use Rattle.shop_defs.proofs.EachLine.{numbered}
 
 -- a field by its number
 abbrev pub number_of : ℕ × Option Value → ℕ
 number_of field = field.0
-
--- the fields of each entity are numbered from 1 on
-numbered : (entity : Entity) → counts_from 1 (fields_of entity) ≡ true
-unfolding fields_of
-numbered E.Language = refl
-numbered E.Tax = refl
-numbered E.Category = refl
-numbered E.CategoryTranslation = refl
-numbered E.Product = refl
-numbered E.ProductTranslation = refl
-numbered E.ProductCategory = refl
-numbered E.ProductPrice = refl
-numbered E.Stream = refl
-numbered E.StreamFilter = refl
-numbered E.Rule = refl
-numbered E.RuleCondition = refl
-numbered E.Promotion = refl
-numbered E.PromotionDiscount = refl
-numbered E.ShippingMethod = refl
-numbered E.ShippingPrice = refl
-numbered E.Stock = refl
-numbered E.Cart = refl
-numbered E.CartLine = refl
-numbered E.CartCode = refl
-numbered E.Order = refl
-numbered E.OrderLine = refl
-numbered E.OrderTax = refl
-numbered E.Draft = refl
-numbered E.DraftCommit = refl
 
 -- both of two tests hold
 both : (a b : Bool) → (a && b) ≡ true → (a ≡ true) × (b ≡ true)

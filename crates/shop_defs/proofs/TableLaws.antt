@@ -1,8 +1,7 @@
 -- Rules that the tables keep, each computed over all of them.
-use Rattle.std.proofs.Common.{◌≡◌, ℕ, ℤ, pos, ◌+◌, true, false, Bool, List, [], ◌∷◌, Option, Some, None, refl, map}
-use Rattle.std.specs.Prelude.{◌&&◌, ◌||◌, ◌==◌, not, nat_le, count_by, filter, is_none, is_some}
+use Rattle.std.proofs.Common.{◌≡◌, ℕ, ◌+◌, true, false, Bool, List, [], ◌∷◌, Option, Some, None, refl}
+use Rattle.std.specs.Prelude.{◌&&◌, ◌||◌, ◌==◌, not, count_by, is_none, is_some, if◌then◌else◌}
 use Rattle.std.specs.List.{list_all, list_any}
-use lib.Signed.{le_z}
 use Rattle.shop_defs.specs.declared.entity.Entity.{Entity}
 use Rattle.shop_defs.specs.declared.entity.Entity.TheVariants as E
 use Rattle.shop_defs.specs.Entities.{entity_number}
@@ -10,18 +9,18 @@ use Rattle.shop_defs.specs.declared.table.EntityInfo.{EntityInfo}
 use Rattle.shop_defs.specs.declared.table.FieldInfo.{FieldInfo}
 use Rattle.shop_defs.specs.declared.table.FieldKind.{FieldKind}
 use Rattle.shop_defs.specs.declared.table.FieldKind.TheVariants as K
-use Rattle.shop_defs.specs.declared.table.Preset.{Preset}
-use Rattle.shop_defs.specs.declared.table.Preset.TheVariants as D
 use Rattle.shop_defs.specs.declared.table.KeyForm.{KeyForm}
 use Rattle.shop_defs.specs.declared.table.KeyForm.TheVariants.{OnePart, TwoParts}
 use Rattle.shop_defs.specs.declared.table.Part.{Part}
 use Rattle.shop_defs.specs.declared.table.Part.TheVariants as P
-use Rattle.shop_defs.specs.declared.table.OnDelete.{OnDelete}
-use Rattle.shop_defs.specs.declared.table.OnDelete.TheVariants as O
 use Rattle.shop_defs.specs.declared.table.Reference.{Reference}
 use Rattle.shop_defs.specs.declared.table.TheConstants.{ENTITIES, REFERENCES, LEVEL_LIMITS, OWNER_LIMITS}
 use Rattle.shop_defs.specs.Texts.{entity_text, field_text}
-use Rattle.shop_defs.specs.Tables.{fields_of, info_of, info_named, field_named, entity_named, field_at}
+use Rattle.shop_defs.specs.Checks.{null_or_fits}
+use Rattle.shop_defs.specs.Presets.{is_there, preset_of}
+use Rattle.shop_defs.specs.Fitting.{is_writable}
+use Rattle.shop_defs.specs.References.{part_name, acts_on_delete}
+use Rattle.shop_defs.specs.Tables.{fields_of, info_of, info_named, field_named, entity_named}
 
 -- a rule holds of every field of every entity
 abbrev pub of_all_fields : (Entity → FieldInfo → Bool) → Bool
@@ -78,25 +77,18 @@ entity_named-text E.OrderTax = refl
 entity_named-text E.Draft = refl
 entity_named-text E.DraftCommit = refl
 
-abbrev pub within : FieldKind → Preset → Bool
-within kind D.Absent = true
-within K.Flag (D.Flag flag) = true
-within (K.Int low high) (D.Int number) = le_z low number && le_z number high
-within K.Interval (D.Int number) = le_z (pos 1) number && le_z number (pos 1)
-within (K.Choice choice) D.FirstWord = true
-within kind preset = false
-
--- what a field holds where it would be null is of its kind and in its range
-pub presets_in_range : of_all_fields (λ entity field. within field.kind field.preset) ≡ true
+-- what a field holds where it would be null fits its kind
+pub presets_fit : of_all_fields (λ entity field. null_or_fits field.kind (preset_of field)) ≡ true
 unfolding fields_of
-presets_in_range = refl
+presets_fit = refl
 
-abbrev pub is_absent : Preset → Bool
-is_absent D.Absent = true
-is_absent preset = false
+-- and it is a value exactly where the field has a preset
+pub presets_are_values : of_all_fields (λ entity field. if is_there field.preset then is_some (preset_of field) else is_none (preset_of field)) ≡ true
+unfolding fields_of
+presets_are_values = refl
 
 -- a required field has no preset
-pub required_without_preset : of_all_fields (λ entity field. not field.marks.required || is_absent field.preset) ≡ true
+pub required_without_preset : of_all_fields (λ entity field. not field.marks.required || not (is_there field.preset)) ≡ true
 unfolding fields_of
 required_without_preset = refl
 
@@ -146,6 +138,20 @@ each_id_is_one_reference = refl
 pub references_agree : list_all (λ reference. agrees reference reference.part) REFERENCES ≡ true
 unfolding fields_of
 references_agree = refl
+
+-- each part in which a reference or an owner stands has a name
+pub references_named : list_all (λ reference. is_some (part_name reference.entity reference.part)) REFERENCES ≡ true
+unfolding fields_of
+references_named = refl
+
+pub owners_named : list_all (λ limit. is_some (part_name limit.entity limit.owner)) OWNER_LIMITS ≡ true
+unfolding fields_of
+owners_named = refl
+
+-- a reference that a delete doesn't look at is to rows that operations may not write, and so not delete
+pub kept_are_not_written : list_all (λ reference. acts_on_delete reference || not (is_writable reference.of)) REFERENCES ≡ true
+unfolding info_of
+kept_are_not_written = refl
 
 abbrev pub parts_are_references : EntityInfo → KeyForm → Bool
 parts_are_references info TwoParts = not info.is_writable || ((references_in info.entity P.Id == 1) && (references_in info.entity P.Second == 1))

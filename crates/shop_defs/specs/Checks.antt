@@ -1,5 +1,5 @@
 -- What a field may hold.
-use Rattle.std.specs.Prelude.{ℕ, ℤ, pos, Bool, ◌&&◌, ◌||◌, nat_le, List, length, if◌then◌else◌, Option, Some, None, is_some, Result, Ok, Err}
+use Rattle.std.specs.Prelude.{ℕ, ℤ, pos, Bool, true, false, not, ◌==◌, ◌&&◌, ◌||◌, nat_le, List, length, if◌then◌else◌, Option, Some, None, is_some, Result, Ok, Err}
 use lib.Signed.{le_z}
 use Rattle.std.specs.List.{list_any}
 use Rattle.std.specs.Option.{option_map}
@@ -19,7 +19,7 @@ use Rattle.shop_defs.specs.declared.check.ValueFault.TheVariants.{WrongKind, Out
 use Rattle.shop_defs.specs.Texts.{choice_texts}
 use Rattle.shop_defs.specs.Tables.{field_at}
 use Rattle.shop_defs.specs.Ids.{id_of}
-use Rattle.shop_defs.specs.Days.{day_of}
+use Rattle.shop_defs.specs.Days.{day_of, is_day_number}
 
 -- nothing where it holds, and else the fault
 abbrev pub unless : Bool → ValueFault → Option ValueFault
@@ -77,3 +77,20 @@ checked_for None raw = Err WrongKind
 -- a value as the entity's field with that number
 abbrev pub checked_value : Entity → ℕ → Raw → Result (Option Value) ValueFault
 checked_value entity number raw = checked_for (field_at entity number) raw
+
+-- the value is one that a field of the kind may keep
+abbrev pub fits : FieldKind → Value → Bool
+fits K.Flag (V.Flag flag) = true
+fits (K.Int low high) (V.Int number) = le_z low number && le_z number high
+fits K.Interval (V.Int number) = is_interval number
+fits (K.Text low high) (V.Text text) = nat_le low (length text) && nat_le (length text) high
+fits (K.Choice choice) (V.Text text) = is_word choice text
+fits (K.Id entity) (V.Ident id) = not (id == 0)
+fits K.Loose (V.Ident id) = not (id == 0)
+fits K.Day (V.Int day) = is_day_number day
+fits kind value = false
+
+-- it is null, or a value that fits
+abbrev pub null_or_fits : FieldKind → Option Value → Bool
+null_or_fits kind None = true
+null_or_fits kind (Some value) = fits kind value

@@ -1,7 +1,9 @@
 -- Days of the calendar, as texts `YYYY-MM-DD` and as days since 1970-01-01.
-use Rattle.std.specs.Prelude.{ℕ, ◌+◌, ◌-◌, ◌*◌, ℤ, pos, Bool, not, ◌&&◌, ◌==◌, nat_le, List, length, take, drop, slice_index, if◌then◌else◌, Option, Some, None}
+use Rattle.std.specs.Prelude.{ℕ, ◌+◌, ◌-◌, ◌*◌, ◌/◌, ◌%◌, ℤ, pos, Bool, not, ◌&&◌, ◌==◌, nat_le, List, [], ◌∷◌, ◌++◌, length, take, drop, slice_index, if◌then◌else◌, Option, Some, None}
+use lib.Signed.{le_z}
 use Rattle.std.specs.List.{fold, list_all}
 use Rattle.jiff_core.specs.Calendar.{days_in_month, days_from_civil}
+use Rattle.shop_defs.specs.declared.day.TheConstants.{LAST_DAY}
 
 abbrev pub is_digit : ℕ → Bool
 is_digit c = nat_le 48 c && nat_le c 57
@@ -36,3 +38,16 @@ day_of text =
     if has_dashes text
     then day_of_parts (digits_number (take 4 text)) (digits_number (take 2 (drop 5 text))) (digits_number (take 2 (drop 8 text)))
     else None
+
+-- the number of a day from 1970-01-01 to 9999-12-30
+abbrev pub is_day_number : ℤ → Bool
+is_day_number day = le_z (pos 0) day && le_z day LAST_DAY
+
+-- a number below 100 as two digits
+abbrev pub two_digits : ℕ → List ℕ
+two_digits n = (48 + n / 10) ∷ (48 + n % 10) ∷ []
+
+-- a year, a month and a day of the month as a text
+abbrev pub parts_text : ℕ → ℕ → ℕ → List ℕ
+parts_text year month day =
+    two_digits (year / 100) ++ two_digits (year % 100) ++ 45 ∷ (two_digits month ++ 45 ∷ two_digits day)

@@ -7,4 +7,8 @@ pub mod Texts
 pub mod Tables
 pub mod Days
 pub mod Checks
+pub mod Presets
+pub mod Fitting
+pub mod References
 pub mod Operations
+pub mod Places

@@ -1,5 +1,5 @@
 //! What a field may hold.
-ghost use Rattle.std.specs.Prelude.{◌≡◌, IfOk, IsSome, is_some, map};
+ghost use Rattle.std.specs.Prelude.{◌≡◌, IsTrue, IfOk, IsSome, is_some, map};
 ghost use Rattle.std.specs.List.{list_any};
 ghost use Rattle.std.specs.Option.{option_map};
 ghost use Rattle.std.specs.Str.{bytes_eq};
@@ -10,9 +10,10 @@ ghost use Rattle.shop_defs.specs.Tables.{field_at as field_of_number};
 ghost use Rattle.shop_defs.specs.Ids as Ids;
 ghost use Rattle.shop_defs.specs.Days as Days;
 ghost use Rattle.shop_defs.specs.Checks as spec;
+ghost use Rattle.shop_defs.specs.Fitting.{given_fits};
 
 use crate::copied::{Copied, NoMemory};
-use crate::day::read_day;
+use crate::day::{is_day_number, read_day};
 use crate::entity::Entity;
 use crate::ids::read_id;
 use crate::lookup::field_at;
@@ -42,7 +43,9 @@ pub enum ValueFault {
 /// exactly where a value of the right kind is outside the field's range, words or days.
 pub fn check_value(entity: Entity, field: u8, value: Raw) -> Result<Option<Value>, ValueFault>
     requires known { IsSome (field_of_number entity field) }
-    ensures { result ≡ spec.checked_value entity field value }
+    ensures value { result ≡ spec.checked_value entity field value }
+    // What is kept is null or fits the field.
+    ensures fits { IfOk result (λ kept. IsTrue (given_fits entity (field, kept))) }
 {
     match field_at(entity, field) {
         Some(info) => check_kind(info.kind, value),
@@ -52,11 +55,32 @@ pub fn check_value(entity: Entity, field: u8, value: Raw) -> Result<Option<Value
 
 /// The value as a field of that kind keeps it: `None` for null. It takes no memory.
 pub fn check_kind(kind: FieldKind, value: Raw) -> Result<Option<Value>, ValueFault>
-    ensures { result ≡ spec.checked kind value }
+    ensures value { result ≡ spec.checked kind value }
+    ensures fits { IfOk result (λ kept. IsTrue (spec.null_or_fits kind kept)) }
 {
     match value_fault(kind, &value) {
         Some(fault) => Err(fault),
         None => Ok(keep(kind, value)),
+    }
+}
+
+/// Whether a field of that kind may keep the value: of a text the length in bytes is in range, an
+/// id isn't 0, and a day is from 1970-01-01 to 9999-12-30. It takes no memory.
+pub fn value_fits(kind: FieldKind, value: &Value) -> bool
+    ensures { result ≡ spec.fits kind value.now }
+{
+    match (kind, value) {
+        (FieldKind::Flag, Value::Flag(_)) => true,
+        (FieldKind::Int { low, high }, Value::Int(number)) => low <= *number && *number <= high,
+        (FieldKind::Interval, Value::Int(number)) => is_interval(*number),
+        (FieldKind::Text { low, high }, Value::Text(text)) => {
+            low <= text.len() && text.len() <= high
+        }
+        (FieldKind::Choice(choice), Value::Text(text)) => is_word(choice, text.as_bytes()),
+        (FieldKind::Id(_), Value::Ident(id)) => *id != 0,
+        (FieldKind::Loose, Value::Ident(id)) => *id != 0,
+        (FieldKind::Day, Value::Int(days)) => is_day_number(*days),
+        _ => false,
     }
 }
 

@@ -3,8 +3,9 @@
 use crate::broken::Broken;
 use crate::check::{ValueFault, check_value};
 use crate::copied::NoMemory;
-use crate::day::read_day;
+use crate::day::{print_day, read_day};
 use crate::entity::Entity;
+use crate::fitting::{is_writable, op_fits};
 use crate::list::List;
 use crate::lookup::field_named;
 use crate::op::{OpKind, RawOp};
@@ -421,7 +422,11 @@ fn reads_days(rt: HostRuntime) {
         ("2026-01-0x", None),
         ("", None),
     ] {
-        assert_eq!(rt; read_day(text.as_bytes()), want, "of {text}");
+        let day = read_day(text.as_bytes());
+        assert_eq!(rt; day, want, "of {text}");
+        if let Some(days) = day {
+            assert!(rt; print_day(days).as_slice() == text.as_bytes(), "of {text}");
+        }
     }
 }
 
@@ -448,6 +453,9 @@ fn told(
         Ok(read) => {
             for (number, _) in read.fields.as_slice() {
                 write!(&mut out, "{number} ")?;
+            }
+            if op_fits(&read) && is_writable(read.entity) {
+                write!(&mut out, "fit")?;
             }
         }
         Err(PlanFault::Refused(refused)) => print_broken(&mut out, refused.broken)?,
@@ -479,7 +487,7 @@ fn print_broken(out: &mut String, broken: Broken) -> Result<(), AllocError> {
 fn reads_operations(rt: HostRuntime) -> Result<(), Fail> {
     let alloc = rt.alloc();
     let out = told(alloc, "product", 0, ("weight", 5), ("gross", 119))?;
-    assert_eq!(rt; out.as_str(), "5 7 ");
+    assert_eq!(rt; out.as_str(), "5 7 fit");
     let out = told(alloc, "produce", 0, ("weight", 5), ("gross", 119))?;
     assert_eq!(rt; out.as_str(), "unknown_entity");
     let out = told(alloc, "stock", 0, ("available", 5), ("adjusted", 5))?;

@@ -1,9 +1,21 @@
 //! Days as texts `YYYY-MM-DD`, by the proleptic Gregorian calendar (ISO 8601).
-ghost use Rattle.std.specs.Prelude.{◌≡◌, ◌≤◌, ◌<◌, ◌^◌, length, IfSome};
+ghost use Rattle.std.specs.Prelude.{◌≡◌, ◌≤◌, ◌<◌, ◌^◌, length, IsTrue, Some, IfSome};
 ghost use Rattle.jiff.specs.Words.{epoch_day};
 ghost use Rattle.shop_defs.specs.Days as spec;
 
 use jiff::civil::Date;
+use jiff_core::civil;
+
+/// The number of the last day that a field may hold, 9999-12-30: how many days it is after
+/// 1970-01-01.
+pub const LAST_DAY: i64 = 2_932_895;
+
+/// Whether a number is that of a day from 1970-01-01 to 9999-12-30.
+pub fn is_day_number(days: i64) -> bool
+    ensures { result ≡ spec.is_day_number days }
+{
+    0 <= days && days <= LAST_DAY
+}
 
 /// The day that a text is, as its number of days after 1970-01-01.
 ///
@@ -11,7 +23,8 @@ use jiff::civil::Date;
 /// calendar from 1970-01-01 to 9999-12-30. It takes no memory.
 #[tactic(auto, unfolding(crate::specs::Days::day_of))]
 pub fn read_day(text: &[u8]) -> Option<i64>
-    ensures { result ≡ spec.day_of text.now }
+    ensures value { result ≡ spec.day_of text.now }
+    ensures range { IfSome result (λ days. IsTrue (spec.is_day_number days)) }
 {
     if text.len() != 10 || text[4] != b'-' || text[7] != b'-' {
         return None;
@@ -21,6 +34,48 @@ pub fn read_day(text: &[u8]) -> Option<i64>
         read_digits(&text[5..7]),
         read_digits(&text[8..10]),
     )
+}
+
+/// The text `YYYY-MM-DD` of the day with that number. It takes no memory.
+pub fn print_day(days: i64) -> [u8; 10]
+    requires { IsTrue (spec.is_day_number days) }
+    // It reads as that day again.
+    ensures { spec.day_of result ≡ Some days }
+{
+    let date = civil::Date::from_unix_epoch_day(days).unwrap();
+    print_parts(date.year.unsigned_abs(), date.month, date.day)
+}
+
+/// The text of a year, a month and a day of the month.
+fn print_parts(year: u16, month: u8, day: u8) -> [u8; 10]
+    requires year { year ≤ 9999 }
+    requires month { month ≤ 99 }
+    requires day { day ≤ 99 }
+    ensures { result ≡ spec.parts_text year month day }
+{
+    let [first, second] = print_two((year / 100) as u8);
+    let [third, fourth] = print_two((year % 100) as u8);
+    let [tens, ones] = print_two(month);
+    let [tens_of_days, days] = print_two(day);
+    [
+        first,
+        second,
+        third,
+        fourth,
+        b'-',
+        tens,
+        ones,
+        b'-',
+        tens_of_days,
+        days,
+    ]
+}
+
+fn print_two(number: u8) -> [u8; 2]
+    requires { number ≤ 99 }
+    ensures { result ≡ spec.two_digits number }
+{
+    [b'0' + number / 10, b'0' + number % 10]
 }
 
 fn day_of_parts(year: Option<u16>, month: Option<u16>, day: Option<u16>) -> Option<i64>

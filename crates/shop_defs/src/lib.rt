@@ -12,6 +12,7 @@ mod copied;
 mod day;
 mod delta;
 mod entity;
+mod fitting;
 mod ids;
 mod join;
 mod key;
@@ -20,6 +21,7 @@ mod list;
 mod look;
 mod lookup;
 mod op;
+mod preset;
 mod query;
 mod reading;
 mod refused;
@@ -35,28 +37,34 @@ mod value;
 mod words;
 
 pub use broken::Broken;
-pub use check::{ValueFault, check_kind, check_value, value_fault};
+pub use check::{ValueFault, check_kind, check_value, value_fault, value_fits};
 pub use command::{Action, Command};
 pub use copied::{Copied, NoMemory};
-pub use day::read_day;
+pub use day::{LAST_DAY, is_day_number, print_day, read_day};
 pub use delta::Delta;
 pub use entity::Entity;
+pub use fitting::{
+    field_fits, fields_fit, given_fits, has_needed, is_writable, key_fits, op_fits, parts_fit,
+    row_key_fits,
+};
 pub use ids::{print_id, read_id};
 pub use join::join_deltas;
 pub use key::Key;
 pub use line_fault::LineFault;
 pub use list::List;
 pub use look::Look;
-pub use lookup::{entity_info, entity_named, field_at, field_named};
+pub use lookup::{entity_info, entity_named, field_at, field_named, field_with_name};
 pub use op::{Op, OpKind, RawOp};
+pub use preset::{is_needed, preset_value};
 pub use query::{Query, RowRead};
 pub use reading::read_op;
 pub use refused::{PlanFault, Refused};
 pub use route::Route;
 pub use row::Row;
 pub use table::{
-    ENTITIES, EntityInfo, FieldInfo, FieldKind, KeyForm, LEVEL_LIMITS, LevelLimit, MOST_ROWS,
-    Marks, OWNER_LIMITS, OnDelete, OwnerLimit, Part, Preset, REFERENCES, Reference, fields_of,
+    ENTITIES, EntityInfo, FieldInfo, FieldKind, KeyForm, LEVEL_LIMITS, LevelLimit, MOMENT, MONEY,
+    MOST_ROWS, Marks, OWNER_LIMITS, OnDelete, OwnerLimit, Part, Preset, REFERENCES, Reference,
+    fields_of,
 };
 pub use txt::Txt;
 pub use value::{Raw, Value};

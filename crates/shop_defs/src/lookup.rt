@@ -1,10 +1,12 @@
 //! Entities and fields, looked up by name and by number.
 ghost use Rattle.std.specs.Prelude.{◌≡◌, Some, IfSome, IsSome};
 ghost use Rattle.shop_defs.specs.Texts.{entity_text};
+ghost use Rattle.std.specs.Option.{option_copied};
 ghost use Rattle.shop_defs.specs.Tables as spec;
+ghost use Rattle.shop_defs.specs.References.{part_name};
 
 use crate::entity::Entity;
-use crate::table::{ENTITIES, EntityInfo, FieldInfo, fields_of};
+use crate::table::{ENTITIES, EntityInfo, FieldInfo, Part, fields_of};
 use crate::words::entity_name;
 
 /// The entity with that name, such as `product_price`: `None` where no entity has it. It takes no
@@ -57,6 +59,23 @@ pub fn field_with_name(entity: Entity, name: &[u8]) -> Option<FieldInfo>
     ensures { result ≡ spec.field_with_name entity name.now }
 {
     name_in(fields_of(entity), name)
+}
+
+impl Part {
+    /// The name by which a refusal names this part of the entity's rows: `id` or `second` of their
+    /// key, or the name of the field. `None` where the entity has no such field.
+    pub fn name(self, entity: Entity) -> Option<&'static str>
+        ensures { option_copied result ≡ part_name entity self }
+    {
+        match self {
+            Part::Id => Some("id"),
+            Part::Second => Some("second"),
+            Part::Field(number) => match field_at(entity, number) {
+                Some(field) => Some(field.name.text()),
+                None => None,
+            },
+        }
+    }
 }
 
 fn entity_in(table: &[EntityInfo], name: &[u8]) -> Option<EntityInfo>

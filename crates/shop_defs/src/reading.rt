@@ -1,12 +1,15 @@
 //! Operations, read by the tables of entities and fields.
-ghost use Rattle.std.specs.Prelude.{◌≡◌, Some, None, IfOk, IfErr, Ok};
+ghost use Rattle.std.specs.Prelude.{◌≡◌, ◌≢◌, Some, None, IsTrue, OnOk, IfOk, IfErr, Ok};
+ghost use Rattle.std.specs.List.{list_all};
 ghost use Rattle.std.specs.Option.{option_copied, option_map};
 ghost use Rattle.std.specs.Ordering.{nat_cmp, is_lt};
 ghost use Rattle.std.specs.Cmp.Lexicographic.{slice_cmp};
 ghost use Rattle.keyed.specs.Keyed.{Ascends};
 ghost use Rattle.shop_defs.specs.declared.refused.PlanFault.TheVariants as F;
 ghost use Rattle.shop_defs.specs.Tables as Tables;
+ghost use Rattle.shop_defs.specs.Fitting as Fitting;
 ghost use Rattle.shop_defs.specs.Operations as spec;
+ghost use Rattle.shop_defs.specs.Places as Places;
 
 use crate::broken::Broken;
 use crate::check::{ValueFault, copy_kept, value_fault};
@@ -38,7 +41,15 @@ use std::cmp::Ordering;
 pub fn read_op(alloc: Global, op: &RawOp) -> Result<Op, PlanFault>
     ensures ok { IfOk result (λ read. spec.reading op.now ≡ Ok read) }
     ensures ascends { IfOk result (λ read. Ascends nat_cmp (λ field. field.0) read.fields) }
+    ensures writable { IfOk result (λ read. IsTrue (Fitting.is_writable read.entity)) }
+    ensures fits { IfOk result (λ read. IsTrue (list_all (Fitting.given_fits read.entity) read.fields)) }
+    // The key of an operation with an id is of its entity's form.
+    ensures key { IfOk result (λ read. op.now.id ≢ 0 → IsTrue (Fitting.parts_fit read.entity read.id read.second)) }
     ensures fault { IfErr result (spec.IsFaultOf op.now) }
+    // In words: the refusal is by the first broken rule, the named place breaks it, and none with a
+    // lesser name does.
+    ensures first { IfErr result (Places.NamesFirst op.now) }
+    ensures kept { OnOk result (Places.KeepsRules op.now) }
 {
     let Some(info) = writable_named(op.entity.as_bytes()) else {
         return Err(refused(Broken::UnknownEntity));

@@ -1,6 +1,7 @@
 //! What the entities and their fields are: one line for each entity, field, reference and limit.
 ghost use Rattle.std.specs.Prelude.{◌≡◌};
 ghost use Rattle.shop_defs.specs.Tables as spec;
+ghost use Rattle.shop_defs.specs.References as References;
 
 use crate::entity::Entity;
 use crate::words::{Choice, FieldName};
@@ -118,6 +119,19 @@ pub struct Reference {
     pub on_delete: OnDelete,
     /// The number of the field in which both rows have to agree: the tree that they are nodes of.
     pub within: Option<u8>,
+}
+
+impl Reference {
+    /// Whether a delete of the row referred to looks at the rows that refer: not where the rows
+    /// referred to are never deleted.
+    pub fn acts_on_delete(&self) -> bool
+        ensures { result ≡ References.acts_on_delete self.now }
+    {
+        match self.on_delete {
+            OnDelete::NeverDeleted => false,
+            _ => true,
+        }
+    }
 }
 
 /// How deep the trees that an entity's rows make by their parents may be.
@@ -245,14 +259,14 @@ const UNIQUE: Marks = Marks {
     ..NONE
 };
 
-/// An amount of money, in minor units.
-const MONEY: FieldKind = FieldKind::Int {
+/// An amount of money, in minor units: 0 to 1,000,000,000,000.
+pub const MONEY: FieldKind = FieldKind::Int {
     low: 0,
     high: 1_000_000_000_000,
 };
 
-/// A moment, in seconds since 1970-01-01T00:00:00 UTC.
-const MOMENT: FieldKind = FieldKind::Int {
+/// A moment, in seconds since 1970-01-01T00:00:00 UTC: 0 to 250,000,000,000.
+pub const MOMENT: FieldKind = FieldKind::Int {
     low: 0,
     high: 250_000_000_000,
 };

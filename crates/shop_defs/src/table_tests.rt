@@ -1,11 +1,13 @@
 //! The tables as text, for a reader to lay beside what the shop was asked to be.
 use crate::entity::Entity;
+use crate::preset::preset_value;
 use crate::table::{
     ENTITIES, EntityInfo, FieldInfo, FieldKind, KeyForm, LEVEL_LIMITS, LevelLimit, MOST_ROWS,
-    OWNER_LIMITS, OnDelete, OwnerLimit, Part, Preset, REFERENCES, Reference, fields_of,
+    OWNER_LIMITS, OnDelete, OwnerLimit, Part, REFERENCES, Reference, fields_of,
 };
+use crate::value::Value;
 use crate::words::{Choice, entity_name};
-use std::alloc::AllocError;
+use std::alloc::{AllocError, Global};
 use std::test::Fail;
 
 /// A line for each entity and field, the marks `unique` of one entity standing for one rule.
@@ -225,22 +227,18 @@ fn print_kind(out: &mut String, kind: FieldKind) -> Result<(), AllocError> {
     }
 }
 
-fn print_first_word(out: &mut String, kind: FieldKind) -> Result<(), AllocError> {
-    if let FieldKind::Choice(choice) = kind {
-        if let Some(word) = choice.texts().first() {
+fn print_preset(alloc: Global, out: &mut String, field: &FieldInfo) -> Result<(), Fail> {
+    match preset_value(alloc, field)? {
+        Some(Value::Flag(flag)) => write!(out, " default {flag}")?,
+        Some(Value::Int(number)) => write!(out, " default {number}")?,
+        Some(Value::Text(text)) => {
+            let word = text.as_str();
             write!(out, " default {word}")?;
         }
+        Some(Value::Ident(_)) => write!(out, " default of an id")?,
+        None => {}
     }
     Ok(())
-}
-
-fn print_preset(out: &mut String, field: &FieldInfo) -> Result<(), AllocError> {
-    match field.preset {
-        Preset::Absent => Ok(()),
-        Preset::Flag(flag) => write!(out, " default {flag}"),
-        Preset::Int(number) => write!(out, " default {number}"),
-        Preset::FirstWord => print_first_word(out, field.kind),
-    }
 }
 
 fn print_mark(out: &mut String, is_set: bool, name: &str) -> Result<(), AllocError> {
@@ -251,7 +249,12 @@ fn print_mark(out: &mut String, is_set: bool, name: &str) -> Result<(), AllocErr
     }
 }
 
-fn print_field(out: &mut String, entity: Entity, field: &FieldInfo) -> Result<(), AllocError> {
+fn print_field(
+    alloc: Global,
+    out: &mut String,
+    entity: Entity,
+    field: &FieldInfo,
+) -> Result<(), Fail> {
     let owner = entity_name(entity);
     let name = field.name.text();
     let number = field.number;
@@ -261,30 +264,22 @@ fn print_field(out: &mut String, entity: Entity, field: &FieldInfo) -> Result<()
     print_mark(out, field.marks.fixed, "fixed")?;
     print_mark(out, field.marks.inherited, "inherited")?;
     print_mark(out, field.marks.unique, "unique")?;
-    print_preset(out, field)?;
-    writeln!(out)
+    print_preset(alloc, out, field)?;
+    writeln!(out)?;
+    Ok(())
 }
 
-fn print_fields(out: &mut String, entity: Entity) -> Result<(), AllocError> {
+fn print_fields(alloc: Global, out: &mut String, entity: Entity) -> Result<(), Fail> {
     for field in fields_of(entity) {
-        print_field(out, entity, field)?;
+        print_field(alloc, out, entity, field)?;
     }
     Ok(())
 }
 
 fn print_part(out: &mut String, entity: Entity, part: Part) -> Result<(), AllocError> {
-    match part {
-        Part::Id => write!(out, "id"),
-        Part::Second => write!(out, "second"),
-        Part::Field(number) => {
-            for field in fields_of(entity) {
-                if field.number == number {
-                    let name = field.name.text();
-                    write!(out, "{name}")?;
-                }
-            }
-            Ok(())
-        }
+    match part.name(entity) {
+        Some(name) => write!(out, "{name}"),
+        None => write!(out, "no such part"),
     }
 }
 
@@ -326,7 +321,7 @@ fn prints_entities_and_fields(rt: HostRuntime) -> Result<(), Fail> {
     let mut out = String::new(rt.alloc());
     for info in &ENTITIES {
         print_entity(&mut out, info)?;
-        print_fields(&mut out, info.entity)?;
+        print_fields(rt.alloc(), &mut out, info.entity)?;
     }
     assert_eq!(rt; out.as_str(), ENTITIES_AND_FIELDS);
     Ok(())

@@ -7,6 +7,7 @@ use crate::command::{Action, Command};
 use crate::copied::{Copied, NoMemory};
 use crate::delta::Delta;
 use crate::entity::Entity;
+use crate::fitting::{fields_fit, has_needed, row_key_fits};
 use crate::ids::{print_id, read_id};
 use crate::join::join_deltas;
 use crate::key::Key;
@@ -195,6 +196,9 @@ fn copies_each_type(rt: HostRuntime) -> Result<(), Fail> {
     assert_eq!(rt; row.copy(alloc)?.ops.len(), 1);
     assert!(rt; row.field(1).is_none());
     assert!(rt; row.field(2).is_some());
+    assert!(rt; row_key_fits(&row.key));
+    assert!(rt; !fields_fit(row.key.entity, row.fields.as_slice()));
+    assert!(rt; !has_needed(&row));
     assert!(rt; is_copied(alloc, &sync(alloc)?)?);
     assert!(rt;
         is_copied(

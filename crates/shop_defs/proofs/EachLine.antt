@@ -1,0 +1,162 @@
+-- What a rule on all lines of the tables says of one entity and of one of its fields.
+use Rattle.std.proofs.Common.{◌≡◌, ℕ, ◌+◌, ◌<◌, true, false, Bool, List, [], ◌∷◌, Option, Some, None, cond, refl, sym, ap, subst, ◌∙◌, arith}
+use Rattle.std.specs.Prelude.{◌&&◌, ◌==◌}
+use Rattle.std.specs.List.{find, list_all, AllByRecursion}
+use Rattle.std.specs.Option.{option_map}
+use Rattle.std.proofs.lemmas.Bool.{eqb-true}
+use Rattle.std.proofs.lemmas.Bool.Decides.{nat_tests}
+use Rattle.shop_defs.specs.declared.entity.Entity.{Entity}
+use Rattle.shop_defs.specs.declared.entity.Entity.TheVariants as E
+use Rattle.shop_defs.specs.Entities.{entity_number}
+use Rattle.shop_defs.specs.declared.table.EntityInfo.{EntityInfo}
+use Rattle.shop_defs.specs.declared.table.FieldInfo.{FieldInfo}
+use Rattle.shop_defs.specs.declared.table.TheConstants.{ENTITIES}
+use Rattle.shop_defs.specs.Texts.{field_text}
+use Rattle.shop_defs.specs.Tables.{fields_of, info_of, field_at, field_named, field_with_name, number_in, name_in}
+use Rattle.shop_defs.specs.Checks.{null_or_fits}
+use Rattle.shop_defs.specs.Presets.{preset_of}
+use Rattle.shop_defs.proofs.TableLaws.{of_all_fields, counts_from, is_number, fields_numbered, field_names_differ, presets_fit}
+
+-- both of two tests hold
+both : (a b : Bool) → (a && b) ≡ true → (a ≡ true) × (b ≡ true)
+both true b h = (refl, h)
+both false b h = cc
+
+-- a test that each element passes, as a fact of each
+pub each_passes : {X : Type 0} (rule : X → Bool) (xs : List X) → list_all rule xs ≡ true → AllByRecursion (λ x. rule x ≡ true) xs
+each_passes rule [] all = tt
+each_passes rule (x ∷ xs) all =
+    let parts = both (rule x) (list_all rule xs) all in
+    (parts.0, each_passes rule xs parts.1)
+
+-- two facts of each element give a third
+each_both : {X : Type 0} (P Q R : X → Type 0) → ((x : X) → P x → Q x → R x) → (xs : List X) → AllByRecursion P xs → AllByRecursion Q xs → AllByRecursion R xs
+each_both P Q R step [] ps qs = tt
+each_both P Q R step (x ∷ xs) ps qs = (step x ps.0 qs.0, each_both P Q R step xs ps.1 qs.1)
+
+-- what holds of each element holds of the one that is found
+pub of_found : {X : Type 0} (P : X → Type 0) (test : X → Bool) (xs : List X) (x : X) → AllByRecursion P xs → find test xs ≡ Some x → P x
+of_found P test [] x all found = cc
+of_found P test (first ∷ rest) x all found = by (test first) (of_found P test rest x all.1) found
+  where
+    by : (passes : Bool) → (find test rest ≡ Some x → P x) → cond passes (Some first) (find test rest) ≡ Some x → P x
+    by true more is =
+        let same : first ≡ x = cc in
+        subst P same all.0
+    by false more is = more is
+
+-- each entity's line in the table is its own
+line_entity : (entity : Entity) → option_map (λ info. info.entity) (info_of entity) ≡ Some entity
+unfolding info_of
+line_entity E.Language = refl
+line_entity E.Tax = refl
+line_entity E.Category = refl
+line_entity E.CategoryTranslation = refl
+line_entity E.Product = refl
+line_entity E.ProductTranslation = refl
+line_entity E.ProductCategory = refl
+line_entity E.ProductPrice = refl
+line_entity E.Stream = refl
+line_entity E.StreamFilter = refl
+line_entity E.Rule = refl
+line_entity E.RuleCondition = refl
+line_entity E.Promotion = refl
+line_entity E.PromotionDiscount = refl
+line_entity E.ShippingMethod = refl
+line_entity E.ShippingPrice = refl
+line_entity E.Stock = refl
+line_entity E.Cart = refl
+line_entity E.CartLine = refl
+line_entity E.CartCode = refl
+line_entity E.Order = refl
+line_entity E.OrderLine = refl
+line_entity E.OrderTax = refl
+line_entity E.Draft = refl
+line_entity E.DraftCommit = refl
+
+-- a rule that all lines keep, an entity's line keeps
+pub of_each : (rule : EntityInfo → Bool) → list_all rule ENTITIES ≡ true → (entity : Entity) (info : EntityInfo) → info_of entity ≡ Some info → rule info ≡ true
+unfolding info_of
+of_each rule all entity info found =
+    of_found (λ line. rule line ≡ true) (λ line. entity_number line.entity == entity_number entity) ENTITIES info (each_passes rule ENTITIES all) found
+
+-- a rule that the fields of all entities keep, an entity's fields keep
+pub of_fields : (rule : Entity → FieldInfo → Bool) → of_all_fields rule ≡ true → (entity : Entity) → list_all (rule entity) (fields_of entity) ≡ true
+of_fields rule all entity = by (info_of entity) refl (line_entity entity)
+  where
+    by : (line : Option EntityInfo) → info_of entity ≡ line → option_map (λ info. info.entity) line ≡ Some entity → list_all (rule entity) (fields_of entity) ≡ true
+    by None is own = cc
+    by (Some info) is own =
+        let same : info.entity ≡ entity = cc in
+        subst (λ of. list_all (rule of) (fields_of of) ≡ true) same (of_each (λ line. list_all (rule line.entity) (fields_of line.entity)) all entity info is)
+
+-- the line that is found by an entity's name is the one of the entity
+pub named_line : AllByRecursion (λ info. info_of info.entity ≡ Some info) ENTITIES
+unfolding info_of
+named_line = (refl, (refl, (refl, (refl, (refl, (refl, (refl, (refl, (refl, (refl, (refl, (refl, (refl, (refl, (refl, (refl, (refl, (refl, (refl, (refl, (refl, (refl, (refl, (refl, (refl, tt)))))))))))))))))))))))))
+
+-- a field stands where its number and its name are looked up
+pub record IsLineOf (entity : Entity) (field : FieldInfo) : Type 0 where
+  pub by_number : field_at entity field.number ≡ Some field
+  pub by_name : field_with_name entity (field_text field.name) ≡ Some field
+
+-- the numbers of a table that counts from a number above k are above k
+above : (k first : ℕ) (table : List FieldInfo) → k < first → counts_from first table ≡ true → AllByRecursion (λ field. k < field.number) table
+above k first [] over counts = tt
+above k first (line ∷ rest) over counts =
+    let parts = both (line.number == first) (counts_from (first + 1) rest) counts in
+    let is = eqb-true line.number first parts.0 in
+    (omega arith, above k (first + 1) rest (omega arith) parts.1)
+
+-- the first line is found by its number
+found_first : (line : FieldInfo) (rest : Option FieldInfo) (number : ℕ) → line.number ≡ number → cond (line.number == number) (Some line) rest ≡ Some line
+found_first line rest number same = grind (arith, nat_tests)
+
+-- a line with another number is passed over
+found_later : (line field : FieldInfo) (rest : Option FieldInfo) → line.number < field.number → rest ≡ Some field → cond (line.number == field.number) (Some line) rest ≡ Some field
+found_later line field rest over found = grind (arith, nat_tests)
+
+-- each line of a table that counts up is found by its number
+numbers_found : (first : ℕ) (table : List FieldInfo) → counts_from first table ≡ true → AllByRecursion (λ field. number_in table field.number ≡ Some field) table
+numbers_found first [] counts = tt
+numbers_found first (line ∷ rest) counts =
+    let parts = both (line.number == first) (counts_from (first + 1) rest) counts in
+    let is = eqb-true line.number first parts.0 in
+    let over = above line.number (first + 1) rest (omega arith) parts.1 in
+    (found_first line (number_in rest line.number) line.number refl, each_both (λ field. line.number < field.number) (λ field. number_in rest field.number ≡ Some field) (λ field. number_in (line ∷ rest) field.number ≡ Some field) (λ field. found_later line field (number_in rest field.number)) rest over (numbers_found (first + 1) rest parts.1))
+
+-- a line is found by its name, where the line that is found has its number
+name_found : (table : List FieldInfo) (field : FieldInfo) → AllByRecursion (λ line. number_in table line.number ≡ Some line) table → is_number field.number (option_map (λ line. line.number) (name_in table (field_text field.name))) ≡ true → number_in table field.number ≡ Some field → name_in table (field_text field.name) ≡ Some field
+name_found table field all is number = by (name_in table (field_text field.name)) refl is
+  where
+    by : (found : Option FieldInfo) → name_in table (field_text field.name) ≡ found → is_number field.number (option_map (λ line. line.number) found) ≡ true → found ≡ Some field
+    by None found same = cc
+    by (Some other) found same =
+        let equal : field.number ≡ other.number = eqb-true field.number other.number same in
+        let there : number_in table other.number ≡ Some other = of_found (λ line. number_in table line.number ≡ Some line) _ table other all found in
+        (sym there) ∙ (ap (number_in table) (sym equal) ∙ number)
+
+-- the fields of each entity are numbered from 1 on
+pub numbered : (entity : Entity) → counts_from 1 (fields_of entity) ≡ true
+numbered entity = by (info_of entity) refl (line_entity entity)
+  where
+    by : (line : Option EntityInfo) → info_of entity ≡ line → option_map (λ info. info.entity) line ≡ Some entity → counts_from 1 (fields_of entity) ≡ true
+    by None is own = cc
+    by (Some info) is own =
+        let same : info.entity ≡ entity = cc in
+        subst (λ of. counts_from 1 (fields_of of) ≡ true) same (of_each (λ line. counts_from 1 (fields_of line.entity)) fields_numbered entity info is)
+
+-- each field of an entity is such a line
+pub each_line : (entity : Entity) → AllByRecursion (IsLineOf entity) (fields_of entity)
+each_line entity =
+    let table = fields_of entity in
+    let numbers = numbers_found 1 table (numbered entity) in
+    let names = each_passes (λ field. is_number field.number (field_named entity (field_text field.name))) table (of_fields (λ of field. is_number field.number (field_named of (field_text field.name))) field_names_differ entity) in
+    each_both (λ field. number_in table field.number ≡ Some field) (λ field. is_number field.number (field_named entity (field_text field.name)) ≡ true) (IsLineOf entity)
+    (λ field number name. record { by_number = number; by_name = name_found table field numbers name number })
+    table numbers names
+
+-- what a field holds where it would be null fits its kind
+pub preset_fits : (entity : Entity) (number : ℕ) (field : FieldInfo) → field_at entity number ≡ Some field → null_or_fits field.kind (preset_of field) ≡ true
+preset_fits entity number field found =
+    of_found (λ line. null_or_fits line.kind (preset_of line) ≡ true) (λ line. line.number == number) (fields_of entity) field (each_passes _ (fields_of entity) (of_fields (λ of line. null_or_fits line.kind (preset_of line)) presets_fit entity)) found
