@@ -1,0 +1,200 @@
+//! The rows, the keeper and the number of accepted entries.
+ghost use Rattle.std.specs.Prelude.{◌≡◌, List, ℕ, Option, Some, IfOk, IfErr, MatchResult};
+ghost use Rattle.shop_defs.specs.declared.row.Row.{Row};
+ghost use Rattle.shop_outside.specs.Clocks.{IsMoment};
+ghost use Rattle.shop_rows.specs.Soundness.{kept as kept_rows, AreSound};
+ghost use Rattle.shop_core.specs.Steps.{IsBuilt};
+ghost use Rattle.shop_core.specs.Shops.{ShopView, IsShop};
+ghost use Rattle.shop_core.specs.Commits.{Commits};
+ghost use Rattle.shop_core.specs.Opening.{Opens, HasOpenCause, IsNoDamage};
+ghost use Rattle.shop_core.specs.Requests.{IsBuiltRead, IsBuiltRequest, Shows, reading, Answers};
+
+use crate::answers::{AskFault, CommitFault, Done, OpenFault, Reply, Request, RowReply};
+use crate::plan::{encode_changes, plan};
+use crate::read::show_row;
+use shop_defs::{Broken, Command, PlanFault, Refused, RowRead};
+use shop_outside::{KeepFault, Keeper, Moment};
+use shop_rows::{CheckFault, Rows, check_rows};
+use std::alloc::Global;
+use std::marker::Model;
+
+/// So many entries are accepted at most, with those that the keeper's number counts.
+const MOST_ENTRIES: u64 = 1 << 62;
+
+/// A shop: its rows behind a keeper, and how many entries of its history were accepted.
+///
+/// Contracts see the rows as a list in key order, the number, what the keeper holds, where it tells,
+/// and the keeper's count of faults. The rows are sound, and a keeper that tells holds the kept rows
+/// and the number, whatever calls of it failed.
+#[derive(Drop)]
+pub struct ShopState<P: Keeper + Drop> {
+    rows: Rows,
+    keeper: P,
+    number: u64,
+}
+
+impl<P: Keeper + Drop> Model for ShopState<P> {
+    ghost use Rattle.shop_core.specs.Shops.{ShopView, IsShop};
+
+    ghost Value = { ShopView };
+
+    ghost view = { λ s. record { rows = s.rows.list; number = s.number; content = P.content s.keeper; faults = P.keep_faults s.keeper } };
+
+    ghost invariant = { λ s. IsShop (record { rows = s.rows.list; number = s.number; content = P.content s.keeper; faults = P.keep_faults s.keeper }) };
+}
+
+/// Opens the shop that the keeper holds. Entries are counted on from the keeper's number.
+///
+/// # Errors
+///
+/// The keeper comes back with each of them, with what it held. `Damaged` comes exactly where what the
+/// keeper gave breaks a rule, with the first such row and its first such rule; `StoreFault` where the
+/// keeper failed, so that its count of faults rose or stands at its last value; and `NoMemory` where
+/// memory is refused.
+pub fn open_shop<P: Keeper + Drop>(
+    alloc: Global,
+    mut keeper: P,
+) -> Result<ShopState<P>, (P, OpenFault)>
+    ensures opens { IfOk result (Opens (P.content keeper) (P.keep_faults keeper)) }
+    ensures shop { IfOk result IsShop }
+    ensures cause { IfErr result (λ e. HasOpenCause (P.content keeper) (P.keep_faults keeper) (P.keep_faults e.0) e.1) }
+    ensures content { IfErr result (λ e. P.content e.0 ≡ P.content keeper) }
+
+    // What a keeper holds of sound rows is opened as these rows, and never damaged.
+    ensures sound { (rows : List Row) (number : ℕ) → AreSound rows
+        → P.content keeper ≡ Some (record { rows = kept_rows rows; number = number })
+        → MatchResult result (λ shop. (shop.rows ≡ rows) × (shop.number ≡ number)) (λ e. IsNoDamage e.1) }
+{
+    match keeper.load() {
+        Ok(kept) => match check_rows(alloc, kept.rows.as_slice()) {
+            Ok(rows) => Ok(ShopState {
+                rows,
+                keeper,
+                number: kept.number,
+            }),
+            Err(CheckFault::Damaged { key, rule }) => Err((
+                keeper,
+                OpenFault::Damaged { key, rule },
+            )),
+            Err(CheckFault::NoMemory) => Err((keeper, OpenFault::NoMemory)),
+        },
+        Err(KeepFault::Failed) => Err((keeper, OpenFault::StoreFault)),
+        Err(KeepFault::NoMemory) => Err((keeper, OpenFault::NoMemory)),
+    }
+}
+
+impl<P: Keeper + Drop> ShopState<P> {
+    /// Carries out a command, and keeps what it changes.
+    ///
+    /// All memory is taken before the keeper is called.
+    ///
+    /// # Errors
+    ///
+    /// `Refused` comes exactly where a step refuses the command, `StoreFailed` where it is accepted
+    /// and the keeper failed, so that its count of faults rose or stands at its last value, and
+    /// `NoMemory` where memory is refused. Rows, number and what the keeper holds are as before.
+    pub fn commit(
+        &mut self,
+        alloc: Global,
+        command: &Command,
+        moment: Moment,
+    ) -> Result<Done, CommitFault>
+        requires built { IsBuilt command.now }
+        requires moment { IsMoment moment }
+        ensures commits { Commits self.old command.now moment result self.new }
+        ensures shop { IsShop self.new }
+    {
+        let (delta, value) = match plan(alloc, &self.rows, command, moment) {
+            Ok(plan) => plan,
+            Err(PlanFault::Refused(refused)) => return Err(CommitFault::Refused(refused)),
+            Err(PlanFault::NoMemory) => return Err(CommitFault::NoMemory),
+        };
+        if self.number >= MOST_ENTRIES {
+            return Err(CommitFault::Refused(Refused {
+                op: 0,
+                broken: Broken::HistoryFull,
+            }));
+        }
+        let bytes = encode_changes(alloc, delta.changes.as_slice())?;
+        self.rows.reserve(&delta)?;
+        match self.keeper.apply(bytes.as_slice(), self.number + 1) {
+            Ok(()) => {
+                self.rows.apply(delta);
+                self.number += 1;
+                Ok(Done {
+                    front: self.number,
+                    value,
+                })
+            }
+            Err(KeepFault::Failed) => Err(CommitFault::StoreFailed),
+            Err(KeepFault::NoMemory) => Err(CommitFault::NoMemory),
+        }
+    }
+
+    /// The row that a read asks for, with what is shown of it.
+    ///
+    /// # Errors
+    ///
+    /// `Refused` with `NoSuchRow` comes exactly where no row has the key, and `NoMemory` where memory
+    /// is refused.
+    pub fn read_row(&self, alloc: Global, read: &RowRead) -> Result<RowReply, AskFault>
+        requires { IsBuiltRead read.now }
+        ensures shows { Shows result (reading self.now.rows read.now) }
+        ensures shop { IsShop self.now }
+    {
+        show_row(alloc, &self.rows, read)
+    }
+
+    /// Answers one request: a write as `commit` does, and a read as `read_row` does, which changes
+    /// nothing.
+    pub fn answer(&mut self, alloc: Global, request: &Request, moment: Moment) -> Reply
+        requires built { IsBuiltRequest request.now }
+        requires moment { IsMoment moment }
+        ensures answers { Answers self.old request.now moment result self.new }
+        ensures shop { IsShop self.new }
+    {
+        match request {
+            Request::Write(command) => match self.commit(alloc, command, moment) {
+                Ok(done) => Reply::Done(done),
+                Err(CommitFault::Refused(refused)) => Reply::Refused(refused),
+                Err(CommitFault::StoreFailed) => Reply::StoreFailed,
+                Err(CommitFault::NoMemory) => Reply::NoMemory,
+            },
+            Request::Row(read) => match self.read_row(alloc, read) {
+                Ok(reply) => Reply::Row(reply),
+                Err(AskFault::Refused(broken)) => Reply::Refused(Refused { op: 0, broken }),
+                Err(AskFault::NoMemory) => Reply::NoMemory,
+            },
+        }
+    }
+
+    /// How many entries were accepted, with those that the keeper's number counted when the shop was
+    /// opened. It takes no memory.
+    pub fn accepted(&self) -> u64
+        ensures { result ≡ self.now.number }
+    {
+        self.number
+    }
+
+    /// The rows.
+    pub fn rows(&self) -> &Rows
+        ensures rows { result.now.list ≡ self.now.rows }
+        ensures shop { IsShop self.now }
+    {
+        &self.rows
+    }
+
+    /// The keeper, which holds the rows and the number where it tells. It takes no memory.
+    pub fn close(self) -> P
+        ensures content { P.content result ≡ self.content }
+        ensures faults { P.keep_faults result ≡ self.faults }
+        ensures shop { IsShop self }
+    {
+        let ShopState {
+            rows: _,
+            keeper,
+            number: _,
+        } = self;
+        keeper
+    }
+}
