@@ -2,8 +2,10 @@ pub mod Buffers
 pub mod Lines
 pub mod Progress
 pub mod Settled
-pub mod Words
+pub mod OneWord
+pub mod Counting
+pub mod Writes
 pub mod Folds
 pub mod Outputs
-pub mod RowLaws
+pub mod Runs
 pub mod FormWords

@@ -1,17 +1,21 @@
 -- What is written is a front of the output for the whole input.
-use Rattle.std.proofs.Common.{◌≡◌, ℕ, zero, suc, ◌⊎◌, List, [], ◌∷◌, ◌++◌, drop, refl, sym, ap, ◌∙◌, subst, inl, inr, append_assoc, append-nil, Option, Some, None}
+use Rattle.std.proofs.Common.{◌≡◌, ℕ, zero, suc, ℤ, pos, ◌+◌, ◌≤◌, ◌⊎◌, List, [], ◌∷◌, ◌++◌, drop, refl, sym, ap, ◌∙◌, subst, inl, inr, append_assoc, append-nil, Option, Some, None, arith, rules}
 use Rattle.std.specs.Io.KnownBytes.{Consumes, Appends, IsAtEnd}
+use Rattle.shop_outside.specs.Clocks.{IsMoment, Ticks}
+use Rattle.shop_core.specs.History.{State}
+use Rattle.shop_core.specs.Shops.{ShopView}
 use Rattle.shop_server.specs.declared.form.Refusal.{Refusal}
+use Rattle.shop_server.specs.declared.form.Form.{Form}
 use Rattle.shop_http.specs.Requests.{Request, Asked, Cuts, Front, whole, Ending, open_at, refused, closing, spent, requests, IsCut}
 use Rattle.shop_server.specs.Cutting.{cut}
 use Rattle.shop_http.specs.Laws.{longest}
 use Rattle.shop_server.specs.Lawful.{the_cut}
 use Rattle.shop_server.specs.declared.session.Ended.{Ended}
 use Rattle.shop_server.specs.declared.session.Ended.TheVariants.{Closed, HeadRefused, Spent, Truncated, ReadFault, WriteFault, NoMemory}
-use Rattle.shop_server.specs.Session.{Session, Answers, IsFront, most_requests}
-use Rattle.shop_server.specs.Answering.{State, no_rows, Gives, IsServed, AreServed, answer_text, after}
+use Rattle.shop_server.specs.Session.{AtMoment, InRange, Session, Answers, IsFront, most_requests}
+use Rattle.shop_server.specs.Answering.{DeskView, stand_of, Gives, AnswersBy, Served, worked_out, IsOf, IsServed, AreServed, served_text, after_served}
 use Rattle.shop_server.proofs.Folds.{answers_fold}
-use Rattle.shop_server.specs.Run.{number_of, number_at, fatal_text, fatal_end, IsOutput, IsCutShort, HasWritten, HasRun}
+use Rattle.shop_server.specs.Run.{number_of, number_at, fatal_text, fatal_end, IsOutput, IsCutShort, HasWritten}
 use Rattle.shop_server.specs.Outcome.{IsSettled, MayEnd}
 use Rattle.shop_server.proofs.Progress.{none_left, at_part, at_bad, at_last, at_whole, answers_push}
 use Rattle.shop_server.proofs.Settled.{outcome, way, goes, stops, less, never, front_trans, requests_stay, requests_grow}
@@ -52,16 +56,58 @@ module _ {A : Type 0} (gives : A → Asked → List ℕ → A → Type 0) where
   answers_join old mid new (x ∷ xs) ys out more h g =
       (h.0, h.1, h.2 ++ more, h.3, answers_join h.0 mid new xs ys h.2 more h.4 g, ap (λ l. l ++ more) h.5 ∙ append_assoc h.1 h.2 more)
 
+-- the moments to come after the next one
+abbrev later : Option (ℕ → ℤ) → Option (ℕ → ℤ)
+later None = None
+later (Some told) = Some (λ k. told (k + 1))
+
+-- a moment that the clock may give
+abbrev next_moment : Option (ℕ → ℤ) → ℤ
+next_moment None = pos 0
+next_moment (Some told) = told 0
+
+moment_in_range : (coming : Option (ℕ → ℤ)) → InRange coming (next_moment coming)
+moment_in_range None = (search (rules, arith), search (rules, arith))
+moment_in_range (Some told) = tt
+
+moment_ticks : (coming : Option (ℕ → ℤ)) → Ticks coming (later coming) (next_moment coming)
+moment_ticks None = refl
+moment_ticks (Some told) = (refl, λ k. refl)
+
+-- a request of a form, answered by the rows
+abbrev worked : DeskView → Form → Asked → Served
+worked desk form ask = record { form = form; last = ask.last; moment = next_moment desk.coming; way = worked_out }
+
+abbrev left_behind : DeskView → Served → DeskView
+left_behind desk one =
+    let state = after_served (stand_of desk) one in
+    record {
+      answerer = record { rows = state.rows; number = state.number; content = desk.answerer.content; faults = desk.answerer.faults };
+      coming = later desk.coming;
+    }
+
+answers_so : (desk : DeskView) (form : Form) (ask : Asked) → IsOf ask.request form
+    → AnswersBy (worked desk form ask) desk.answerer ask (served_text (stand_of desk) (worked desk form ask)) (left_behind desk (worked desk form ask)).answerer
+answers_so desk form ask is = record {
+  form = is;
+  last = refl;
+  may = tt;
+  text = refl;
+  left = refl;
+  counts = refl;
+  told = refl;
+}
+
 -- requests of the two forms always have answers
-pub answers_exist : (each : (bytes : List ℕ) (r : Request) (used : ℕ) → cut bytes ≡ whole r used → IsServed r) (old : State) (asked : List Asked) → Each cut longest the_cut IsServed each asked
-    → (out : List ℕ) × (new : State) × Answers Gives old asked out new
+pub answers_exist : (each : (bytes : List ℕ) (r : Request) (used : ℕ) → cut bytes ≡ whole r used → IsServed r) (old : DeskView) (asked : List Asked) → Each cut longest the_cut IsServed each asked
+    → (out : List ℕ) × (new : DeskView) × Answers (AtMoment Gives) old asked out new
 answers_exist each old [] h = ([], old, (refl, refl))
 answers_exist each old (ask ∷ asked) h =
-    let form = h.0.0 in
-    let next : State = after old form in
-    let response : List ℕ = answer_text old form ask.last in
+    let one : Served = worked old h.0.0 ask in
+    let next : DeskView = left_behind old one in
+    let response : List ℕ = served_text (stand_of old) one in
     let rest = answers_exist each next asked h.1 in
-    let here : Gives old ask response next = (form, h.0.1, inl (refl, refl)) in
+    let here : AtMoment Gives old ask response next = (next_moment old.coming, moment_in_range old.coming, moment_ticks old.coming, (one, refl, answers_so old h.0.0 ask h.0.1)) in
     (response ++ rest.0, rest.1, (next, response, rest.0, here, rest.2, refl))
 
 -- ---- what is written
@@ -74,33 +120,33 @@ told_rest : (all got : List ℕ) (left : Option (List ℕ)) → Consumes (Some a
 told_rest all got None c = absurd c
 told_rest all got (Some rest) c = (rest, c, λ e. c ∙ ap (λ r. got ++ r) e ∙ append-nil got)
 
-module _ (each : (bytes : List ℕ) (r : Request) (used : ℕ) → cut bytes ≡ whole r used → IsServed r) (last : State) (all before : List ℕ) (left' written' : Option (List ℕ)) where
+module _ (each : (bytes : List ℕ) (r : Request) (used : ℕ) → cut bytes ≡ whole r used → IsServed r) (first last : DeskView) (all before : List ℕ) (left' written' : Option (List ℕ)) where
   abbrev Ran : Ended → Type 0
-  Ran ended = Session Gives fatal_text cut most_requests no_rows last (Some all) left' (Some before) written' ended
+  Ran ended = Session (AtMoment Gives) fatal_text cut most_requests first last (Some all) left' (Some before) written' ended
 
   abbrev cuts_of : List ℕ → Cuts Refusal
   cuts_of bytes = requests cut most_requests bytes
 
-  output_of : (cuts : Cuts Refusal) (asked : List Asked) (body output : List ℕ) (end : State) → Answers Gives no_rows asked body end → asked ≡ cuts.asked
-      → output ≡ body ++ fatal_end cuts.ending → IsOutput cuts output
+  output_of : (cuts : Cuts Refusal) (asked : List Asked) (body output : List ℕ) (end : DeskView) → Answers (AtMoment Gives) first asked body end → asked ≡ cuts.asked
+      → output ≡ body ++ fatal_end cuts.ending → IsOutput (stand_of first) cuts output
   output_of cuts asked body output end h e o =
-      let fold = answers_fold no_rows end asked body h in
-      (fold.0, subst (λ l. AreServed l fold.0) e fold.1, o ∙ ap (λ l. l ++ fatal_end cuts.ending) fold.2)
+      let fold = answers_fold first end asked body h in
+      (fold.0, subst (λ l. AreServed (stand_of first) l fold.0) e fold.1.each, o ∙ ap (λ l. l ++ fatal_end cuts.ending) fold.1.text)
 
   -- the whole output was written
-  whole_output : (number : ℕ) (body out : List ℕ) (asked : List Asked) → Appends (Some before) written' out → Answers Gives no_rows asked body last
-      → asked ≡ (cuts_of all).asked → out ≡ body ++ fatal_end (cuts_of all).ending → HasWritten all before written' number
+  whole_output : (number : ℕ) (body out : List ℕ) (asked : List Asked) → Appends (Some before) written' out → Answers (AtMoment Gives) first asked body last
+      → asked ≡ (cuts_of all).asked → out ≡ body ++ fatal_end (cuts_of all).ending → HasWritten (stand_of first) all before written' number
   whole_output number body out asked a h e o =
       (out, out, output_of (cuts_of all) asked body out last h e o, told_more before written' out a, front_of_all out, inr refl)
 
   -- a front of it was written
-  front_output : (number : ℕ) (full out : List ℕ) (asked : List Asked) → Appends (Some before) written' out → Answers Gives no_rows asked full last
-      → IsFront asked (cuts_of all).asked → IsFront out full → IsCutShort number → HasWritten all before written' number
+  front_output : (number : ℕ) (full out : List ℕ) (asked : List Asked) → Appends (Some before) written' out → Answers (AtMoment Gives) first asked full last
+      → IsFront asked (cuts_of all).asked → IsFront out full → IsCutShort number → HasWritten (stand_of first) all before written' number
   front_output number full out asked a h front f short =
       let others = answers_exist each last front.0 (each_behind cut longest the_cut IsServed each asked front.0 (cuts_of all).asked front.1 (each_asked cut longest the_cut IsServed each most_requests all)) in
       let body : List ℕ = full ++ others.0 in
-      let answers : Answers Gives no_rows (cuts_of all).asked body others.1 =
-      subst (λ l. Answers Gives no_rows l body others.1) (sym front.1) (answers_join Gives no_rows last others.1 asked front.0 full others.0 h others.2) in
+      let answers : Answers (AtMoment Gives) first (cuts_of all).asked body others.1 =
+      subst (λ l. Answers (AtMoment Gives) first l body others.1) (sym front.1) (answers_join (AtMoment Gives) first last others.1 asked front.0 full others.0 h others.2) in
       let output : List ℕ = body ++ fatal_end (cuts_of all).ending in
       let more : IsFront full output = (others.0 ++ fatal_end (cuts_of all).ending, append_assoc full others.0 (fatal_end (cuts_of all).ending)) in
       (output, out, output_of (cuts_of all) (cuts_of all).asked body output others.1 answers refl refl, told_more before written' out a, front_trans out full output f more, inl short)
@@ -121,14 +167,14 @@ module _ (each : (bytes : List ℕ) (r : Request) (used : ℕ) → cut bytes ≡
       subst (λ bs. IsFront (cuts_of s.got).asked (cuts_of bs).asked) (sym r.1) (requests_grow cut longest the_cut most_requests s.got r.0)
 
   -- everything was answered and nothing more is due
-  all_answered : (ended : Ended) (s : Ran ended) (number : ℕ) (e : Ending Refusal) → fatal_end e ≡ [] → s.asked ≡ (cuts_of s.got).asked → Answers Gives no_rows s.asked s.out last
-      → (cuts_of s.got).ending ≡ e → cuts_of all ≡ cuts_of s.got → HasWritten all before written' number
+  all_answered : (ended : Ended) (s : Ran ended) (number : ℕ) (e : Ending Refusal) → fatal_end e ≡ [] → s.asked ≡ (cuts_of s.got).asked → Answers (AtMoment Gives) first s.asked s.out last
+      → (cuts_of s.got).ending ≡ e → cuts_of all ≡ cuts_of s.got → HasWritten (stand_of first) all before written' number
   all_answered ended s number e none h a is same =
       whole_output number s.out s.out s.asked s.wrote a (h ∙ ap (λ c. c.asked) (sym same))
       (sym (ap (λ l. s.out ++ l) (ap (λ c. fatal_end c.ending) same ∙ ap fatal_end is ∙ none) ∙ append-nil s.out))
 
-  written_by : (ended : Ended) → Ran ended → HasWritten all before written' (number_of ended)
-  written_by Closed s = elim s.how.2 as (λ _. HasWritten all before written' 0) [
+  pub written_by : (ended : Ended) → Ran ended → HasWritten (stand_of first) all before written' (number_of ended)
+  written_by Closed s = elim s.how.2 as (λ _. HasWritten (stand_of first) all before written' 0) [
     | inl c ↦ all_answered Closed s 0 closing refl s.how.0 s.how.1 c (same_cuts Closed s closing c tt)
     | inr o ↦ all_answered Closed s 0 (open_at []) refl s.how.0 s.how.1 o.0 (same_at_end Closed s o.1)
   ]
@@ -140,11 +186,11 @@ module _ (each : (bytes : List ℕ) (r : Request) (used : ℕ) → cut bytes ≡
   written_by Truncated s = all_answered Truncated s 6 (open_at s.how.2.0) refl s.how.0 s.how.1 s.how.2.2 (same_at_end Truncated s s.how.3)
   written_by ReadFault s =
       front_output 3 s.out s.out s.asked s.wrote s.how.1 (subst (λ l. IsFront l (cuts_of all).asked) (sym s.how.0) (read_front ReadFault s)) (front_of_all s.out) (inl refl)
-  written_by WriteFault s = elim s.how.5 as (λ _. HasWritten all before written' 4) [
+  written_by WriteFault s = elim s.how.5 as (λ _. HasWritten (stand_of first) all before written' 4) [
     | inl h ↦
         (let full : List ℕ = s.how.0 ++ s.how.2 in
-        let answers : Answers Gives no_rows s.asked full last =
-        subst (λ l. Answers Gives no_rows l full last) (sym h.3) (answers_push Gives no_rows h.2 last h.0 h.1 s.how.0 s.how.2 h.5 h.6) in
+        let answers : Answers (AtMoment Gives) first s.asked full last =
+        subst (λ l. Answers (AtMoment Gives) first l full last) (sym h.3) (answers_push (AtMoment Gives) first h.2 last h.0 h.1 s.how.0 s.how.2 h.5 h.6) in
         let begun : IsFront s.out full =
         (s.how.4.0, ap (λ l. s.how.0 ++ l) s.how.4.1 ∙ sym (append_assoc s.how.0 s.how.1 s.how.4.0) ∙ ap (λ l. l ++ s.how.4.0) (sym s.how.3)) in
         front_output 4 full s.out s.asked s.wrote answers (front_trans s.asked (cuts_of s.got).asked (cuts_of all).asked h.4 (read_front WriteFault s)) begun (inr (inl refl)))
@@ -163,30 +209,15 @@ module _ (each : (bytes : List ℕ) (r : Request) (used : ℕ) → cut bytes ≡
         ))
   ]
   written_by NoMemory s =
-      front_output 9 s.out s.out s.asked s.wrote s.how.1 (subst (λ l. IsFront l (cuts_of all).asked) (sym s.how.0) (read_front NoMemory s)) (front_of_all s.out) (inr (inr refl))
+      front_output 9 s.out s.out s.asked s.wrote s.how.1 (subst (λ l. IsFront l (cuts_of all).asked) (sym s.how.0) (read_front NoMemory s)) (front_of_all s.out) (inr (inr (inr refl)))
 
-pub run_written : (each : (bytes : List ℕ) (r : Request) (used : ℕ) → cut bytes ≡ whole r used → IsServed r) (all before : List ℕ) (left left' written written' : Option (List ℕ)) (number : ℕ)
-    → left ≡ Some all → written ≡ Some before → HasRun left left' written written' number → HasWritten all before written' number
-run_written each all before left left' written written' number told begun h =
-    let session : Session Gives fatal_text cut most_requests no_rows h.2 (Some all) left' (Some before) written' h.0 =
-    subst (λ w. Session Gives fatal_text cut most_requests no_rows h.2 (Some all) left' w written' h.0) begun
-    (subst (λ l. Session Gives fatal_text cut most_requests no_rows h.2 l left' written written' h.0) told h.3) in
-    subst (λ n. HasWritten all before written' n) (sym h.1) (written_by each h.2 all before left' written' h.0 session)
-
--- ---- the status
-
-number_by : (ending : Ending Refusal) (ended : Ended) → MayEnd ending ended → IsCutShort (number_of ended) ⊎ (number_of ended ≡ number_at ending)
-number_by ending ended (inl e) = inl (inl (ap number_of e))
-number_by ending ended (inr (inl e)) = inl (inr (inl (ap number_of e)))
-number_by ending ended (inr (inr (inl e))) = inl (inr (inr (ap number_of e)))
-number_by ending ended (inr (inr (inr e))) = inr (ap number_of e)
-
--- the status is that of the whole input
-pub run_number : (all : List ℕ) (left left' written written' : Option (List ℕ)) (number : ℕ) → left ≡ Some all → HasRun left left' written written' number
-    → IsCutShort number ⊎ (number ≡ number_at (requests cut most_requests all).ending)
-run_number all left left' written written' number told h =
-    let session : Session Gives fatal_text cut most_requests no_rows h.2 (Some all) left' written written' h.0 =
-    subst (λ l. Session Gives fatal_text cut most_requests no_rows h.2 l left' written written' h.0) told h.3 in
-    let ending : Ending Refusal = (requests cut most_requests all).ending in
-    subst (λ n. IsCutShort n ⊎ (n ≡ number_at ending)) (sym h.1)
-    (number_by ending h.0 (outcome Gives fatal_text cut longest the_cut most_requests no_rows h.2 all left' written written' h.0 session))
+-- where nothing was written, that is a front of the output
+pub unwritten : (each : (bytes : List ℕ) (r : Request) (used : ℕ) → cut bytes ≡ whole r used → IsServed r) (state : State) (all before : List ℕ) (written : Option (List ℕ)) (number : ℕ)
+    → written ≡ Some before → IsCutShort number → HasWritten state all before written number
+unwritten each state all before written number e short =
+    let desk : DeskView = record { answerer = record { rows = state.rows; number = state.number; content = None; faults = 0 }; coming = None } in
+    let cuts : Cuts Refusal = requests cut most_requests all in
+    let answers = answers_exist each desk cuts.asked (each_asked cut longest the_cut IsServed each most_requests all) in
+    let output : List ℕ = answers.0 ++ fatal_end cuts.ending in
+    let fold = answers_fold desk answers.1 cuts.asked answers.0 answers.2 in
+    (output, [], (fold.0, fold.1.each, ap (λ l. l ++ fatal_end cuts.ending) fold.1.text), e ∙ ap Some (sym (append-nil before)), (output, refl), inl short)

@@ -1,5 +1,5 @@
 -- Which requests are served: those of the two forms, whatever other fields their heads have. All else is refused.
-use Rattle.std.specs.Prelude.{ℕ, ◌≡◌, ◌+◌, ◌++◌, ◌↔◌, Bool, true, false, not, ◌&&◌, List, [], length, take, drop, codes, if◌then◌else◌, Option, Some, None, option_map, is_some}
+use Rattle.std.specs.Prelude.{ℕ, ◌≡◌, ◌<◌, ◌+◌, ◌++◌, ◌↔◌, Bool, true, false, not, ◌&&◌, List, [], length, take, drop, codes, if◌then◌else◌, Option, Some, None, option_map, is_some}
 use Rattle.std.specs.Str.{bytes_eq}
 use Rattle.shop_defs.specs.Ids.{id_of}
 use Rattle.shop_http.specs.Requests.{Request, Field, missing, once, twice, Front, whole, part, bad}
@@ -53,6 +53,11 @@ first_of None other = other
 -- the form of a request, if it has one
 unfoldable pub form_of : Request → Option Form
 form_of r = if is_plain r then first_of (option_map Insert (written_id r)) (option_map Show (shown_id r)) else None
+
+-- the id of a form is one, and so isn't 0
+abbrev pub HasId : Form → Type 0
+HasId (Insert id) = 0 < id
+HasId (Show id) = 0 < id
 
 -- ---- the cut
 

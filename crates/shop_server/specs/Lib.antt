@@ -2,6 +2,9 @@ pub mod Session
 pub mod Serving
 pub mod Outcome
 pub mod Cutting
+pub mod Bodies
 pub mod Answering
+pub mod Reports
 pub mod Run
+pub mod Words
 pub mod Lawful

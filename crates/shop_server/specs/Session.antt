@@ -1,7 +1,8 @@
 -- What a connection may do: the requests that are cut off the bytes read are answered, one after the other.
 -- F is the type of the faults for which a front is refused, A what an answerer is seen as.
-use Rattle.std.specs.Prelude.{ℕ, Bool, ◌≡◌, ◌<◌, ◌++◌, ◌⊎◌, List, [], ◌∷◌, length, Option}
+use Rattle.std.specs.Prelude.{ℕ, ℤ, Bool, ◌≡◌, ◌<◌, ◌++◌, ◌⊎◌, List, [], ◌∷◌, length, Option, Some, None}
 use Rattle.std.specs.Io.KnownBytes.{Consumes, Appends, IsAtEnd}
+use Rattle.shop_outside.specs.Clocks.{IsMoment, Ticks}
 use Rattle.shop_http.specs.declared.next.Head.{Head}
 use Rattle.shop_http.specs.Requests.{Request, Asked, whole, request_of, Cuts, Front, open_at, refused, closing, spent, requests}
 use Rattle.shop_server.specs.declared.session.Ended.{Ended}
@@ -11,9 +12,23 @@ use Rattle.shop_server.specs.declared.session.Ended.TheVariants.{Closed, HeadRef
 abbrev pub EachIsServed : {F : Type 0} → (List ℕ → Front F) → (Request → Type 0) → Type 0
 EachIsServed cut serves = (bytes : List ℕ) (r : Request) (used : ℕ) → cut bytes ≡ whole r used → serves r
 
+-- a moment that isn't told is one in range
+abbrev pub InRange : Option (ℕ → ℤ) → ℤ → Type 0
+InRange None moment = IsMoment moment
+InRange (Some told) moment = Unit {0}
+
 -- a request, as a head and a body lend it, that is to be answered
 abbrev pub asked_of : Head → List ℕ → Bool → Asked
 asked_of head body last = record { request = request_of head body; last = last }
+
+-- what answers, and the moments that its clock is still to give, where it tells them
+pub record Timed (A : Type 0) : Type 0 where
+  pub answerer : A
+  pub coming : Option (ℕ → ℤ)
+
+-- A request is answered at a moment that the clock gives for it.
+abbrev pub AtMoment : {A : Type 0} → (A → Asked → ℤ → List ℕ → A → Type 0) → Timed A → Asked → List ℕ → Timed A → Type 0
+AtMoment gives old ask out new = (moment : ℤ) × InRange old.coming moment × Ticks old.coming new.coming moment × gives old.answerer ask moment out new.answerer
 
 -- From old, these requests may be answered by these bytes, one after the other, and leave new.
 -- `gives` says it of one request.

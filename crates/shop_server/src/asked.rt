@@ -1,5 +1,5 @@
 //! Which of the two forms a request has.
-ghost use Rattle.std.specs.Prelude.{◌≡◌, ◌+◌, ◌<◌, ◌^◌, ℕ, take, drop, length};
+ghost use Rattle.std.specs.Prelude.{◌≡◌, ◌+◌, ◌<◌, ◌^◌, ℕ, take, drop, length, IfSome};
 ghost use Rattle.shop_http.specs.Requests.{field_of, request_of};
 ghost use Rattle.shop_server.specs.Cutting as spec;
 
@@ -41,7 +41,8 @@ fn first(bytes: &[u8], count: usize) -> &[u8]
 /// The id whose digits stand between two texts, where nothing else does.
 fn id_between(front: &[u8], back: &[u8], text: &[u8]) -> Option<u128>
     requires { length front.now < 1000 }
-    ensures { result ≡ spec.id_between front.now back.now text.now }
+    ensures value { result ≡ spec.id_between front.now back.now text.now }
+    ensures positive { IfSome result (λ id. 0 < id) }
 {
     if first(text, front.len()) == front && after(text, front.len() + ID_LENGTH) == back {
         read_id(first(after(text, front.len()), ID_LENGTH))
@@ -68,7 +69,8 @@ fn is_plain(head: &Head<'_>, body: &[u8]) -> bool
 }
 
 fn written_id(head: &Head<'_>, body: &[u8]) -> Option<u128>
-    ensures { result ≡ spec.written_id (request_of head.now body.now) }
+    ensures value { result ≡ spec.written_id (request_of head.now body.now) }
+    ensures positive { IfSome result (λ id. 0 < id) }
 {
     if head.method == b"POST".as_slice() && head.target == b"/sync".as_slice() {
         id_between(BODY_FRONT, BODY_BACK, body)
@@ -78,7 +80,8 @@ fn written_id(head: &Head<'_>, body: &[u8]) -> Option<u128>
 }
 
 fn shown_id(head: &Head<'_>, body: &[u8]) -> Option<u128>
-    ensures { result ≡ spec.shown_id (request_of head.now body.now) }
+    ensures value { result ≡ spec.shown_id (request_of head.now body.now) }
+    ensures positive { IfSome result (λ id. 0 < id) }
 {
     if head.method == b"GET".as_slice() {
         id_between(PATH_FRONT, &[], head.target)
@@ -90,7 +93,8 @@ fn shown_id(head: &Head<'_>, body: &[u8]) -> Option<u128>
 /// The form of a request, if it has one.
 #[tactic(auto, unfolding(crate::specs::Cutting::form_of))]
 pub fn form_of(head: &Head<'_>, body: &[u8]) -> Option<Form>
-    ensures { result ≡ spec.form_of (request_of head.now body.now) }
+    ensures form { result ≡ spec.form_of (request_of head.now body.now) }
+    ensures id { IfSome result spec.HasId }
 {
     if !is_plain(head, body) {
         return None;

@@ -1,79 +1,96 @@
 //! The program's call: words, a source, a sink, a keeper and a clock.
-ghost use Rattle.std.specs.Prelude.{◌≡◌, ◌⊎◌, ◌↔◌, IsTrue, ℕ, List, Some, map, string_bytes};
-ghost use Rattle.shop_http.specs.Requests.{requests};
-ghost use Rattle.shop_server.specs.Cutting.{cut};
+ghost use Rattle.std.specs.Prelude.{◌≡◌, ◌⊎◌, ◌↔◌, ℕ, List, Some, None};
 ghost use Rattle.shop_outside.specs.Causes.{Rose};
-ghost use Rattle.shop_server.specs.Run.{IsRun, HasRun, HasWritten, IsCutShort, fatal_text, number_of, number_at};
-ghost use Rattle.shop_server.specs.Session.{Session, most_requests};
-ghost use Rattle.shop_server.specs.Answering.{Gives, State, no_rows};
+ghost use Rattle.shop_outside.specs.declared.keeper.Kept.{Kept};
+ghost use Rattle.shop_core.specs.History.{State};
+ghost use Rattle.shop_core.specs.Shops.{IsShop, ShopView};
+ghost use Rattle.shop_http.specs.Requests.{requests};
+ghost use Rattle.shop_rows.specs.Damage.{Damage, first_damage};
+ghost use Rattle.shop_server.specs.Answering.{Gives};
+ghost use Rattle.shop_server.specs.Cutting.{cut};
+ghost use Rattle.shop_server.specs.Session.{AtMoment, Session, most_requests};
+ghost use Rattle.shop_server.specs.Words.{IsCheck, IsNoLine, IsRun};
+ghost use Rattle.shop_server.specs.Reports.{report_of};
+ghost use Rattle.shop_server.specs.Run.{HasChecked, HasRun, HasWritten, IsCutShort, Keeps, fatal_text, number_at};
 
-use crate::catalogue::Catalogue;
+use crate::check::check;
 use crate::session::{Ended, serve};
+use crate::status::{Status, status_of, status_unopened};
 use crate::two_forms::TwoForms;
+use crate::words::{Verb, verb_of};
+use shop_core::{ShopState, open_shop};
 use shop_outside::{Clock, Keeper, Pair, Sink, Source};
 use std::alloc::Global;
 
-/// The status with which a program ends.
-#[derive(Clone, Copy, Debug, PartialEq, Eq)]
-pub struct Status {
-    /// The exit status: 0 where all is done, else the number of a cause.
-    pub number: u8,
-}
-
-fn is_run(words: &[String]) -> bool
-    ensures { IsTrue result ↔ IsRun words.now }
+/// Serves one connection over a source and a sink, and gives the shop's keeper back.
+fn serve_over<S: Source, K: Sink, P: Keeper + Drop, C: Clock>(
+    alloc: Global,
+    source: &mut S,
+    sink: &mut K,
+    shop: ShopState<P>,
+    clock: &mut C,
+) -> (P, Ended)
+    ensures session { (last : ShopView) × Session (AtMoment Gives) fatal_text cut most_requests
+        (record { answerer = shop; coming = C.coming clock.old }) (record { answerer = last; coming = C.coming clock.new })
+        (S.left source.old) (S.left source.new) (K.written sink.old) (K.written sink.new) result.1
+        × IsShop last × (P.content result.0 ≡ last.content) × (P.keep_faults result.0 ≡ last.faults) }
+    ensures read_failed { result.1 ≡ Ended.ReadFault → Rose (S.read_faults source.old) (S.read_faults source.new) }
+    ensures write_failed { result.1 ≡ Ended.WriteFault → Rose (K.write_faults sink.old) (K.write_faults sink.new) }
+    ensures reads_kept { (result.1 ≡ Ended.ReadFault → ⊥) → S.read_faults source.new ≡ S.read_faults source.old }
+    ensures writes_kept { (result.1 ≡ Ended.WriteFault → ⊥) → K.write_faults sink.new ≡ K.write_faults sink.old }
 {
-    match words {
-        [word] => word.as_str() == "run",
-        _ => false,
-    }
-}
-
-fn status_of(ended: Ended) -> Status
-    ensures { result.number ≡ number_of ended }
-{
-    let number = match ended {
-        Ended::Closed => 0,
-        Ended::ReadFault => 3,
-        Ended::WriteFault => 4,
-        Ended::Truncated => 6,
-        Ended::NoMemory => 9,
-        Ended::Spent => 10,
-        Ended::HeadRefused => 12,
-    };
-    Status { number }
-}
-
-/// Serves one connection over a source and a sink, from no rows on.
-fn serve_from_empty<S: Source, K: Sink>(alloc: Global, source: &mut S, sink: &mut K) -> Ended
-    ensures session { (last : State) × Session Gives fatal_text cut most_requests no_rows last
-        (S.left source.old) (S.left source.new) (K.written sink.old) (K.written sink.new) result }
-    ensures read_failed { result ≡ Ended.ReadFault → Rose (S.read_faults source.old) (S.read_faults source.new) }
-    ensures write_failed { result ≡ Ended.WriteFault → Rose (K.write_faults sink.old) (K.write_faults sink.new) }
-    ensures reads_kept { (result ≡ Ended.ReadFault → ⊥) → S.read_faults source.new ≡ S.read_faults source.old }
-    ensures writes_kept { (result ≡ Ended.WriteFault → ⊥) → K.write_faults sink.new ≡ K.write_faults sink.old }
-{
-    let mut catalogue = Catalogue::new(alloc);
+    let mut shop = shop;
     let mut link = Pair { source, sink };
-    serve(alloc, &mut link, &TwoForms, &mut catalogue)
+    let ended = serve(alloc, &mut link, &TwoForms, &mut shop, clock);
+    (shop.close(), ended)
+}
+
+/// Opens the shop that the keeper holds, and serves one connection over it.
+fn run<S: Source, K: Sink, P: Keeper + Drop, C: Clock>(
+    alloc: Global,
+    source: &mut S,
+    sink: &mut K,
+    keeper: P,
+    clock: &mut C,
+) -> (P, Status)
+    ensures ran { HasRun
+        (record { left = S.left source.old; written = K.written sink.old; content = P.content keeper; faults = P.keep_faults keeper; coming = C.coming clock.old })
+        (record { left = S.left source.new; written = K.written sink.new; content = P.content result.0; faults = P.keep_faults result.0; coming = C.coming clock.new })
+        result.1.number }
+    ensures read_fault { result.1.number ≡ 3 → Rose (S.read_faults source.old) (S.read_faults source.new) }
+    ensures write_fault { result.1.number ≡ 4 → Rose (K.write_faults sink.old) (K.write_faults sink.new) }
+    ensures reads_kept { (result.1.number ≡ 3 → ⊥) → S.read_faults source.new ≡ S.read_faults source.old }
+    ensures writes_kept { (result.1.number ≡ 4 → ⊥) → K.write_faults sink.new ≡ K.write_faults sink.old }
+{
+    match open_shop(alloc, keeper) {
+        Ok(shop) => {
+            let (keeper, ended) = serve_over(alloc, source, sink, shop, clock);
+            (keeper, status_of(ended))
+        }
+        Err((keeper, fault)) => (keeper, status_unopened(&fault)),
+    }
 }
 
 /// Runs the program over the words behind its name.
 ///
-/// Served is the one word `run`: requests are read from the source, and each is answered on the sink before the next is
-/// looked at, over rows that begin empty. The keeper comes back as it was handed in, and neither it nor the clock is asked
-/// anything yet.
+/// At the one word `run` the shop that the keeper holds is opened, requests are read from the source and answered on the sink, and
+/// accepted writes are kept by the keeper. The clock is read once for each request. At the one word `check` the shop is opened and
+/// reported on the sink: `rows R` and `number N`, a line each, or `damaged KEY RULE`. The keeper comes back, and holds what the
+/// accepted writes led to, where it tells. The clauses speak of what was read, written and kept in the end. That each request is
+/// answered, and each accepted write kept, before more is read is how the loop is built, and is tested.
 ///
 /// | Status | Where |
 /// |---|---|
-/// | 0 | the input ended between requests |
-/// | 2 | the words aren't the one word `run`: nothing is read or written |
+/// | 0 | the input ended between requests; for `check`, the shop is sound |
+/// | 2 | the words are no command line of the program: nothing is read or written |
 /// | 3, 4 | a read, a write failed: only where that object's count of faults rose |
+/// | 5 | the keeper failed when it was opened: only where its count of faults rose |
 /// | 6 | the input ended inside a request |
-/// | 9 | memory for the buffer was refused |
+/// | 7 | what the keeper holds is damaged |
+/// | 9 | memory for the rows, the buffer or the report was refused |
 /// | 10 | 1,000,000 requests were answered |
-/// | 12 | what was left can't become a request of a form that is served, however it goes on: `not_built` was answered |
-pub fn run_shop<S: Source, K: Sink, P: Keeper, C: Clock>(
+/// | 12 | a whole request is of no form that is served, or what was left is no request however it goes on: `not_built` was answered |
+pub fn run_shop<S: Source, K: Sink, P: Keeper + Drop, C: Clock>(
     alloc: Global,
     words: &[String],
     source: &mut S,
@@ -81,36 +98,51 @@ pub fn run_shop<S: Source, K: Sink, P: Keeper, C: Clock>(
     keeper: P,
     clock: &mut C,
 ) -> (P, Status)
-    // Other words are a usage fault, and nothing is read or written.
-    ensures usage { (result.1.number ≡ 2) ↔ (IsRun words.now → ⊥) }
-    ensures untouched { (IsRun words.now → ⊥) → (source.new ≡ source.old) × (sink.new ≡ sink.old) }
+    // Other words are a usage fault, and nothing is asked of what is handed in.
+    ensures usage { (result.1.number ≡ 2) ↔ IsNoLine words.now }
+    ensures untouched { IsNoLine words.now
+        → (source.new ≡ source.old) × (sink.new ≡ sink.old) × (clock.new ≡ clock.old) × (result.0 ≡ keeper) }
 
-    // The responses to the requests cut off the bytes read are written, and nothing else.
-    ensures session { IsRun words.now
-        → HasRun (S.left source.old) (S.left source.new) (K.written sink.old) (K.written sink.new) result.1.number }
+    // `run`: the responses to the requests cut off the bytes read are written, and nothing else, over the rows that the keeper
+    // held and the writes accepted before; and the keeper that comes back holds what they led to.
+    ensures ran { IsRun words.now → HasRun
+        (record { left = S.left source.old; written = K.written sink.old; content = P.content keeper; faults = P.keep_faults keeper; coming = C.coming clock.old })
+        (record { left = S.left source.new; written = K.written sink.new; content = P.content result.0; faults = P.keep_faults result.0; coming = C.coming clock.new })
+        result.1.number }
 
-    // A fault of the line has a cause, and is answered.
+    // `check`: what the keeper holds is reported, and no request is read.
+    ensures checked { IsCheck words.now → HasChecked
+        (record { left = S.left source.old; written = K.written sink.old; content = P.content keeper; faults = P.keep_faults keeper; coming = C.coming clock.old })
+        (record { left = S.left source.new; written = K.written sink.new; content = P.content result.0; faults = P.keep_faults result.0; coming = C.coming clock.new })
+        result.1.number }
+    ensures unread { IsCheck words.now → (source.new ≡ source.old) × (clock.new ≡ clock.old) }
+
+    // A fault has a cause, and is answered.
     ensures read_fault { result.1.number ≡ 3 → Rose (S.read_faults source.old) (S.read_faults source.new) }
     ensures write_fault { result.1.number ≡ 4 → Rose (K.write_faults sink.old) (K.write_faults sink.new) }
+    ensures store_fault { result.1.number ≡ 5 → Rose (P.keep_faults keeper) (P.keep_faults result.0) }
     ensures reads_kept { (result.1.number ≡ 3 → ⊥) → S.read_faults source.new ≡ S.read_faults source.old }
     ensures writes_kept { (result.1.number ≡ 4 → ⊥) → K.write_faults sink.new ≡ K.write_faults sink.old }
 
-    // Where nothing failed and memory sufficed, the status is that of the whole input.
-    ensures exact { (all : List ℕ) → IsRun words.now → S.left source.old ≡ Some all
+    // Where nothing failed and memory sufficed, the status is that of what the keeper holds and of the whole input.
+    ensures exact { (all : List ℕ) (start : State) → IsRun words.now → S.left source.old ≡ Some all → Keeps (P.content keeper) start
         → IsCutShort result.1.number ⊎ (result.1.number ≡ number_at (requests cut most_requests all).ending) }
+    ensures damaged { (held : Kept) (damage : Damage) → IsRun words.now → P.content keeper ≡ Some held → first_damage None held.rows ≡ Some damage
+        → (IsCutShort result.1.number ⊎ (result.1.number ≡ 7)) × (K.written sink.new ≡ K.written sink.old) }
+    ensures sound { (start : State) → IsCheck words.now → Keeps (P.content keeper) start
+        → IsCutShort result.1.number ⊎ (result.1.number ≡ 0) }
+    ensures reported { (held : Kept) → IsCheck words.now → P.content keeper ≡ Some held
+        → IsCutShort result.1.number ⊎ (result.1.number ≡ (report_of held).status) }
 
-    // What is written is a front of the output for the whole input, and all of it at any other status.
-    ensures answered { (all before : List ℕ) → IsRun words.now
-        → S.left source.old ≡ Some all → K.written sink.old ≡ Some before
-        → HasWritten all before (K.written sink.new) result.1.number }
-
-    // Nothing is asked of these two.
-    ensures keeper { result.0 ≡ keeper }
-    ensures clock { clock.new ≡ clock.old }
+    // What `run` writes is a front of the output for the whole input, and all of it where the status isn't 3, 4, 5 or 9. How often
+    // and why a write was answered 503 is said by `ran`.
+    ensures answered { (all before : List ℕ) (start : State) → IsRun words.now
+        → S.left source.old ≡ Some all → K.written sink.old ≡ Some before → Keeps (P.content keeper) start
+        → HasWritten start all before (K.written sink.new) result.1.number }
 {
-    if !is_run(words) {
-        return (keeper, Status { number: 2 });
+    match verb_of(words) {
+        None => (keeper, Status { number: 2 }),
+        Some(Verb::Run) => run(alloc, source, sink, keeper, clock),
+        Some(Verb::Check) => check(alloc, sink, keeper),
     }
-    let ended = serve_from_empty(alloc, source, sink);
-    (keeper, status_of(ended))
 }

@@ -1,6 +1,6 @@
 //! Whole runs over memory: the bytes and the status, in pieces of any size, and with each call failing in turn.
 use crate::run::run_shop;
-use shop_defs::List;
+use shop_defs::{Entity, Key, List};
 use shop_outside::{FixedClock, Kept, MemKeeper, MemSink, MemSource};
 use std::alloc::Global;
 use std::process::Abort;
@@ -8,6 +8,9 @@ use std::test::Fail;
 
 const WRITE: &[u8] =
     b"POST /sync HTTP/1.1\r\nContent-Length: 89\r\n\r\n[{\"op\":\"upsert\",\"entity\":\"category\",\"id\":\"00000000000000000000000000000010\",\"fields\":{}}]";
+
+const WRITE_OTHER: &[u8] =
+    b"POST /sync HTTP/1.1\r\nContent-Length: 89\r\n\r\n[{\"op\":\"upsert\",\"entity\":\"category\",\"id\":\"00000000000000000000000000000011\",\"fields\":{}}]";
 
 const READ: &[u8] = b"GET /row/category/00000000000000000000000000000010 HTTP/1.1\r\n\r\n";
 
@@ -28,6 +31,18 @@ const SHOWN: &[u8] =
 
 const MISSING: &[u8] =
     b"HTTP/1.1 404 Not Found\r\ncontent-type: application/json\r\ncontent-length: 73\r\n\r\n{\"error\":\"no_such_row\",\"key\":\"category/00000000000000000000000000000011\"}";
+
+const WRITTEN_THIRD: &[u8] =
+    b"HTTP/1.1 200 OK\r\ncontent-type: application/json\r\ncontent-length: 21\r\n\r\n{\"front\":3,\"value\":1}";
+
+const STORE_FAILED: &[u8] =
+    b"HTTP/1.1 503 Service Unavailable\r\ncontent-type: application/json\r\ncontent-length: 24\r\n\r\n{\"error\":\"store_failed\"}";
+
+const HISTORY_FULL: &[u8] =
+    b"HTTP/1.1 409 Conflict\r\ncontent-type: application/json\r\ncontent-length: 24\r\n\r\n{\"error\":\"history_full\"}";
+
+const SHOWN_OTHER: &[u8] =
+    b"HTTP/1.1 200 OK\r\ncontent-type: application/json\r\ncontent-length: 130\r\n\r\n{\"fields\":{\"active\":true,\"position\":0},\"key\":\"category/00000000000000000000000000000011\",\"shown\":{\"description\":null,\"name\":null}}";
 
 const NOT_BUILT: &[u8] =
     b"HTTP/1.1 501 Not Implemented\r\ncontent-type: application/json\r\ncontent-length: 21\r\nconnection: close\r\n\r\n{\"error\":\"not_built\"}";
@@ -219,7 +234,29 @@ const ALL_AT_ONCE: Line = Line {
     failing_write: 0,
 };
 
-fn run(alloc: Global, words: &[&str], input: Vec<u8>, line: &Line) -> Result<(Vec<u8>, u8), Fail> {
+/// A keeper that holds these rows and this number, of which the listed calls fail.
+fn keeper(
+    alloc: Global,
+    rows: Vec<(Key, List<u8>)>,
+    number: u64,
+    failing_load: u64,
+    failing_applies: Vec<u64>,
+) -> Result<MemKeeper, Fail> {
+    let kept = Kept {
+        rows: List::from_vec(rows),
+        // No keeper holds a greater number.
+        number: number.min((1 << 63) - 1),
+    };
+    Ok(MemKeeper::new(alloc, kept, vec![in alloc; failing_load]?, failing_applies))
+}
+
+fn run_over(
+    alloc: Global,
+    words: &[&str],
+    input: Vec<u8>,
+    line: &Line,
+    keeper: MemKeeper,
+) -> Result<(Vec<u8>, u8, MemKeeper), Fail> {
     let words = word_list(alloc, words)?;
     let mut source = MemSource::new(input, line.read_piece, vec![in alloc; line.failing_read]?);
     let mut sink = MemSink::new(
@@ -227,13 +264,8 @@ fn run(alloc: Global, words: &[&str], input: Vec<u8>, line: &Line) -> Result<(Ve
         line.write_piece,
         vec![in alloc; line.failing_write]?,
     );
-    let kept = Kept {
-        rows: List::new(alloc),
-        number: 0,
-    };
-    let keeper = MemKeeper::new(alloc, kept, Vec::new(alloc), Vec::new(alloc));
     let mut clock = FixedClock::new(vec![in alloc; 0i64]?);
-    let (_, status) = run_shop(
+    let (keeper, status) = run_shop(
         alloc,
         words.as_slice(),
         &mut source,
@@ -241,7 +273,13 @@ fn run(alloc: Global, words: &[&str], input: Vec<u8>, line: &Line) -> Result<(Ve
         keeper,
         &mut clock,
     );
-    Ok((Vec::from_slice(alloc, sink.bytes())?, status.number))
+    Ok((Vec::from_slice(alloc, sink.bytes())?, status.number, keeper))
+}
+
+fn run(alloc: Global, words: &[&str], input: Vec<u8>, line: &Line) -> Result<(Vec<u8>, u8), Fail> {
+    let empty = keeper(alloc, Vec::new(alloc), 0, 0, Vec::new(alloc))?;
+    let (written, status, _) = run_over(alloc, words, input, line, empty)?;
+    Ok((written, status))
 }
 
 fn expect_case(rt: &impl Abort, alloc: Global, case: &Case, line: &Line) -> Result<(), Fail> {
@@ -335,11 +373,243 @@ fn each_write_fails_in_turn(rt: HostRuntime) -> Result<(), Fail> {
 #[test]
 fn other_words_are_refused(rt: HostRuntime) -> Result<(), Fail> {
     let alloc = rt.alloc();
-    let lists: [&[&str]; 6] = [&[], &[""], &["Run"], &["runs"], &["run", "run"], &["serve"]];
+    let lists: [&[&str]; 8] = [
+        &[],
+        &[""],
+        &["Run"],
+        &["runs"],
+        &["run", "run"],
+        &["serve"],
+        &["checks"],
+        &["check", "run"],
+    ];
     for words in lists {
         let (written, status) = run(alloc, words, joined(alloc, &[WRITE, READ])?, &ALL_AT_ONCE)?;
         assert_eq!(rt; written.len(), 0);
         assert_eq!(rt; status, 2);
+    }
+    Ok(())
+}
+
+/// The category's row as it is kept, with its two defaults.
+const ROW: &[u8] = b"\x01\x02\x02\x01\x03\x02\0\0\0\0\0\0\0\0\0\0\0\0";
+
+/// What a keeper holds and which of its calls fail, what is run over it, and what must come of it.
+#[derive(Drop, Clone, Copy)]
+struct Stored {
+    words: &'static str,
+    /// The bytes under the key of category 16, if any.
+    row: Option<&'static [u8]>,
+    number: u64,
+    failing_load: u64,
+    /// The numbers of the calls that fail, none of them 0.
+    failing_applies: [u64; 4],
+    input: [&'static [u8]; 5],
+    output: [&'static [u8]; 5],
+    status: u8,
+    /// How many rows the keeper holds in the end, and its number.
+    kept: (usize, u64),
+}
+
+/// A sound store over which nothing fails, and nothing is asked.
+const SOUND: Stored = Stored {
+    words: "run",
+    row: Some(ROW),
+    number: 1,
+    failing_load: 0,
+    failing_applies: [0; 4],
+    input: [b""; 5],
+    output: [b""; 5],
+    status: 0,
+    kept: (1, 1),
+};
+
+const STORES: [Stored; 13] = [
+    SOUND,
+    Stored {
+        input: [READ, READ_OTHER, WRITE_OTHER, READ_OTHER, b""],
+        output: [SHOWN, MISSING, WRITTEN_AGAIN, SHOWN_OTHER, b""],
+        kept: (2, 2),
+        ..SOUND
+    },
+    // The third write fails, and succeeds when it is asked for again.
+    Stored {
+        row: None,
+        number: 0,
+        failing_applies: [3, 0, 0, 0],
+        input: [WRITE, WRITE, WRITE_OTHER, WRITE_OTHER, READ_OTHER],
+        output: [
+            WRITTEN,
+            WRITTEN_AGAIN,
+            STORE_FAILED,
+            WRITTEN_THIRD,
+            SHOWN_OTHER,
+        ],
+        kept: (2, 3),
+        ..SOUND
+    },
+    Stored {
+        row: None,
+        number: 0,
+        failing_applies: [1, 0, 0, 0],
+        input: [WRITE, READ, WRITE, READ, b""],
+        output: [
+            STORE_FAILED,
+            b"HTTP/1.1 404 Not Found\r\ncontent-type: application/json\r\ncontent-length: 73\r\n\r\n{\"error\":\"no_such_row\",\"key\":\"category/00000000000000000000000000000010\"}",
+            WRITTEN,
+            SHOWN,
+            b"",
+        ],
+        ..SOUND
+    },
+    // A keeper that fails at each write: the reads are right.
+    Stored {
+        failing_applies: [1, 2, 3, 4],
+        input: [WRITE_OTHER, READ, WRITE, READ_OTHER, WRITE_OTHER],
+        output: [STORE_FAILED, SHOWN, STORE_FAILED, MISSING, STORE_FAILED],
+        ..SOUND
+    },
+    Stored {
+        failing_load: 1,
+        input: [READ, b"", b"", b"", b""],
+        status: 5,
+        ..SOUND
+    },
+    Stored {
+        row: None,
+        number: 1 << 62,
+        input: [WRITE, READ_OTHER, b"", b"", b""],
+        output: [HISTORY_FULL, MISSING, b"", b"", b""],
+        kept: (0, 1 << 62),
+        ..SOUND
+    },
+    Stored {
+        row: Some(b"\x02"),
+        input: [READ, b"", b"", b"", b""],
+        status: 7,
+        ..SOUND
+    },
+    Stored {
+        words: "check",
+        output: [b"rows 1\nnumber 1\n", b"", b"", b"", b""],
+        ..SOUND
+    },
+    Stored {
+        words: "check",
+        row: None,
+        number: (1 << 63) - 1,
+        input: [WRITE, b"", b"", b"", b""],
+        output: [b"rows 0\nnumber 9223372036854775807\n", b"", b"", b"", b""],
+        kept: (0, (1 << 63) - 1),
+        ..SOUND
+    },
+    Stored {
+        words: "check",
+        row: Some(b"\x02"),
+        output: [
+            b"damaged category/00000000000000000000000000000010 encoding\n",
+            b"",
+            b"",
+            b"",
+            b"",
+        ],
+        status: 7,
+        ..SOUND
+    },
+    // A category without its position.
+    Stored {
+        words: "check",
+        row: Some(b"\x01\x01\x02\x01\0\0\0\0"),
+        output: [
+            b"damaged category/00000000000000000000000000000010 required\n",
+            b"",
+            b"",
+            b"",
+            b"",
+        ],
+        status: 7,
+        ..SOUND
+    },
+    Stored {
+        words: "check",
+        failing_load: 1,
+        status: 5,
+        ..SOUND
+    },
+];
+
+fn keeper_of(alloc: Global, case: &Stored) -> Result<MemKeeper, Fail> {
+    let mut rows = Vec::new(alloc);
+    if let Some(bytes) = case.row {
+        let key = Key {
+            entity: Entity::Category,
+            version: 0,
+            id: 16,
+            second: 0,
+        };
+        rows.push((key, List::from_vec(Vec::from_slice(alloc, bytes)?)))?;
+    }
+    let failing = Vec::from_slice(alloc, &case.failing_applies)?;
+    keeper(alloc, rows, case.number, case.failing_load, failing)
+}
+
+#[test]
+fn runs_over_what_is_kept(rt: HostRuntime) -> Result<(), Fail> {
+    let alloc = rt.alloc();
+    for case in &STORES {
+        let (written, status, keeper) = run_over(
+            alloc,
+            &[case.words],
+            joined(alloc, &case.input)?,
+            &ALL_AT_ONCE,
+            keeper_of(alloc, case)?,
+        )?;
+        assert_eq!(&rt; written.as_slice(), joined(alloc, &case.output)?.as_slice());
+        assert_eq!(&rt; status, case.status);
+        assert_eq!(&rt; keeper.rows().len(), case.kept.0);
+        assert_eq!(&rt; keeper.number(), case.kept.1);
+        if status == 0 {
+            expect_reopened(&rt, alloc, keeper, case.kept)?;
+        }
+    }
+    Ok(())
+}
+
+/// What comes back is a sound shop with so many rows and that number.
+fn expect_reopened(
+    rt: &impl Abort,
+    alloc: Global,
+    keeper: MemKeeper,
+    kept: (usize, u64),
+) -> Result<(), Fail> {
+    let wanted = format!(in alloc; "rows {}\nnumber {}\n", kept.0, kept.1)?;
+    let (report, status, _) = run_over(alloc, &["check"], Vec::new(alloc), &ALL_AT_ONCE, keeper)?;
+    assert_eq!(rt; report.as_slice(), wanted.as_bytes());
+    assert_eq!(rt; status, 0);
+    Ok(())
+}
+
+#[test]
+fn each_write_of_a_report_fails_in_turn(rt: HostRuntime) -> Result<(), Fail> {
+    let alloc = rt.alloc();
+    // 5 bytes are written at a time: the report of 16 bytes takes 4 writes.
+    for (failing_write, length, status) in [(1, 0, 4), (2, 5, 4), (4, 15, 4), (5, 16, 0)] {
+        let line = Line {
+            read_piece: 1,
+            write_piece: 5,
+            failing_read: 0,
+            failing_write,
+        };
+        let (report, got, _) = run_over(
+            alloc,
+            &["check"],
+            Vec::new(alloc),
+            &line,
+            keeper_of(alloc, &SOUND)?,
+        )?;
+        assert!(&rt; b"rows 1\nnumber 1\n".starts_with(report.as_slice()));
+        assert_eq!(&rt; report.len(), length);
+        assert_eq!(&rt; got, status);
     }
     Ok(())
 }

@@ -1,19 +1,14 @@
-//! The requests of the two forms: cut off a stream, and answered from a catalogue.
+//! The requests of the two forms, cut off a stream.
 ghost use Rattle.std.specs.Prelude.{◌≡◌, IsSome, Some};
 ghost use Rattle.shop_http.specs.Laws.{longest};
 ghost use Rattle.shop_server.specs.Lawful.{the_cut};
-ghost use Rattle.shop_server.specs.Answering.{Gives, IsServed};
 ghost use Rattle.shop_server.specs.Cutting.{cut};
 ghost use Rattle.shop_server.specs.Run.{fatal_text};
 
-use crate::answerer::Answerer;
 use crate::asked::form_of;
-use crate::catalogue::Catalogue;
 use crate::form::Refusal;
 use crate::framing::Framing;
-use shop_defs::{List, NoMemory};
-use shop_http::{Head, Next, next_request, not_built_response};
-use std::alloc::Global;
+use shop_http::{Next, next_request, not_built_response};
 
 /// The two forms of a request that are served. All else is refused.
 #[derive(Clone, Copy, Debug)]
@@ -47,23 +42,4 @@ impl Framing for TwoForms {
     }
 
     ghost is_cut = { the_cut };
-}
-
-impl Answerer for Catalogue {
-    ghost serves = { IsServed };
-
-    ghost gives = { Gives };
-
-    fn answer(
-        &mut self,
-        alloc: Global,
-        head: &Head<'_>,
-        body: &[u8],
-        last: bool,
-    ) -> Result<List<u8>, NoMemory> {
-        match form_of(head, body) {
-            Some(form) => self.reply(alloc, form, last),
-            None => unreachable!(),
-        }
-    }
 }

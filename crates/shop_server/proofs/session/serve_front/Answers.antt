@@ -11,14 +11,14 @@ pub returns-in-Err-clause-stepped : goal.returns-in-Err-clause-stepped
 returns-in-Err-clause-stepped g c = λ most first p.
     let a = c.in-Err.ensures.answered in
     reply_cut _ _ _ _ g.met.C.Framing.is_cut most first c.args.more _
-    (record { answerer = c.reply.new.answerer; left = g.L.Source.left c.reply.new.link; written = g.L.Sink.written c.reply.new.link; input = [] })
+    (record { answerer = record { answerer = c.reply.new.answerer; coming = g.T.Clock.coming c.reply.new.clock }; left = g.L.Source.left c.reply.new.link; written = g.L.Sink.written c.reply.new.link; input = [] })
     a.0 a.1 _ c.in-Whole.used c.is_last-last.result p (ap g.C.Framing.cut (sym c.rest.ensures) ∙ c.in-Whole.ensures) c.is_last-last.ensures a.2 a.3 a.4 c.reply.ensures.left
 
 pub returns-in-Ok-clause-stepped : goal.returns-in-Ok-clause-stepped
 returns-in-Ok-clause-stepped g c = λ most first p.
     let a = c.in-Ok.ensures.answered in
     asked_to_close _ _ _ _ g.met.C.Framing.is_cut most first c.args.more _
-    (record { answerer = c.reply.new.answerer; left = g.L.Source.left c.reply.new.link; written = g.L.Sink.written c.reply.new.link; input = [] })
+    (record { answerer = record { answerer = c.reply.new.answerer; coming = g.T.Clock.coming c.reply.new.clock }; left = g.L.Source.left c.reply.new.link; written = g.L.Sink.written c.reply.new.link; input = [] })
     a.0 _ c.in-Whole.used c.is_last-last.result p (ap g.C.Framing.cut (sym c.rest.ensures) ∙ c.in-Whole.ensures) c.if-head.true c.is_last-last.ensures a.2
     (subst (Appends (g.L.Sink.written c.args.link.now) (g.L.Sink.written c.reply.new.link)) a.5 a.4) c.reply.ensures.left
 
@@ -45,7 +45,7 @@ pub returns-in-Ok-write_all-clause-stepped : goal.returns-in-Ok-write_all-clause
 returns-in-Ok-write_all-clause-stepped g c = λ most first p.
     let w = c.in-Ok-write_all.ensures.wrote in
     head_refused _ _ _ _ g.met.C.Framing.is_cut most first c.args.more _
-    (record { answerer = c.args.answerer.now; left = g.L.Source.left c.write_all.new.link; written = g.L.Sink.written c.write_all.new.link; input = [] })
+    (record { answerer = record { answerer = c.args.answerer.now; coming = g.T.Clock.coming c.args.clock.now }; left = g.L.Source.left c.write_all.new.link; written = g.L.Sink.written c.write_all.new.link; input = [] })
     c.in-Fatal.fault p (ap g.C.Framing.cut (sym c.rest.ensures) ∙ c.in-Fatal.ensures)
     (subst (Appends (g.L.Sink.written c.args.link.now) (g.L.Sink.written c.write_all.new.link)) (w.3 ∙ c.refusal.ensures) w.2) c.write_all.ensures.left refl
 
@@ -53,6 +53,6 @@ pub returns-in-Err-write_all-clause-stepped : goal.returns-in-Err-write_all-clau
 returns-in-Err-write_all-clause-stepped g c = λ most first p.
     let w = c.in-Err-write_all.ensures.wrote in
     fatal_cut _ _ _ _ g.met.C.Framing.is_cut most first c.args.more _
-    (record { answerer = c.args.answerer.now; left = g.L.Source.left c.write_all.new.link; written = g.L.Sink.written c.write_all.new.link; input = [] })
+    (record { answerer = record { answerer = c.args.answerer.now; coming = g.T.Clock.coming c.args.clock.now }; left = g.L.Source.left c.write_all.new.link; written = g.L.Sink.written c.write_all.new.link; input = [] })
     c.in-Fatal.fault w.0 p (ap g.C.Framing.cut (sym c.rest.ensures) ∙ c.in-Fatal.ensures)
     (w.1.0, sym c.refusal.ensures ∙ w.1.1) w.2 c.write_all.ensures.left refl

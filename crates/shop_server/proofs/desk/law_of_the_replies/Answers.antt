@@ -1,5 +1,5 @@
 use Rattle.shop_server.proofs.Folds.{answers_fold}
-use Rattle.shop_server.proofs.catalogue.law_of_the_replies.Goals as goal
+use Rattle.shop_server.proofs.desk.law_of_the_replies.Goals as goal
 
 pub returns : goal.returns
 returns c = answers_fold
