@@ -1,19 +1,17 @@
 #!/usr/bin/env python3
-"""Times what one commit costs into 1,000, 10,000 and 100,000 rows, and prints the ratios.
+"""Prints what one commit costs into 1,000, 10,000 and 100,000 rows, and the ratios.
 
-usage: bench/commits.py [--order random|ascending]
+usage: bench/commits.py [--place anywhere|end]
 
-A time is that of a run of ./shop with so many writes of different ids and then MORE writes of other ids, less that of a run
-without these, divided by MORE: the best of three runs each, in seconds of the wall clock, with standard output thrown away.
-The keeper is the program's one in memory. --order says in which order the ids come.
+A cost is the processor time of a run of ./shop with so many writes in the order of their ids and then MORE further writes,
+less that of a run without these, divided by MORE: the best of five runs each, with standard output thrown away. --place
+says whether the further ids stand anywhere among the others or behind them all. The keeper is the program's one in memory.
 """
 import argparse
 import os
 import random
 import subprocess
-import sys
 import tempfile
-import time
 
 TOP = os.path.dirname(os.path.dirname(os.path.abspath(__file__)))
 SHOP = os.path.join(TOP, "shop")
@@ -22,43 +20,50 @@ SIZES = [1_000, 10_000, 100_000]
 MORE = 2_000
 
 
-def ids(count, order):
+def ids(size, place):
     source = random.Random(7)
-    values = sorted({source.getrandbits(128) or 1 for _ in range(count)})
-    if order == "random":
-        source.shuffle(values)
-    return values
+    values = set()
+    while len(values) < size + MORE:
+        values.add(source.getrandbits(128) or 1)
+    values = sorted(values)
+    if place == "end":
+        return values[:size], values[size:]
+    further = source.sample(values, MORE)
+    chosen = set(further)
+    return [value for value in values if value not in chosen], further
 
 
-def best_time(path):
+def processor_time(path):
     times = []
-    for _ in range(3):
+    for _ in range(5):
         with open(path, "rb") as stream:
-            start = time.perf_counter()
-            status = subprocess.run([SHOP, "run"], stdin=stream, stdout=subprocess.DEVNULL).returncode
-            times.append(time.perf_counter() - start)
-        if status != 0:
-            sys.exit("status %d" % status)
+            run = subprocess.Popen([SHOP, "run"], stdin=stream, stdout=subprocess.DEVNULL)
+            _, status, usage = os.wait4(run.pid, 0)
+            run.returncode = os.waitstatus_to_exitcode(status)
+        if run.returncode != 0:
+            raise SystemExit("status %d" % run.returncode)
+        times.append(usage.ru_utime + usage.ru_stime)
     return min(times)
 
 
 def main():
     options = argparse.ArgumentParser()
-    options.add_argument("--order", choices=["random", "ascending"], default="random")
-    order = options.parse_args().order
+    options.add_argument("--place", choices=["anywhere", "end"], default="anywhere")
+    place = options.parse_args().place
     subprocess.run([SHOP, "check"], stdout=subprocess.DEVNULL, check=True)
-    costs = []
+    first = None
     with tempfile.TemporaryDirectory() as folder:
         path = os.path.join(folder, "writes")
         for size in SIZES:
-            values = ids(size + MORE, order)
+            before, further = ids(size, place)
             times = []
-            for count in (size, size + MORE):
+            for values in (before, before + further):
                 with open(path, "w", newline="") as out:
-                    out.writelines(WRITE % value for value in values[:count])
-                times.append(best_time(path))
-            costs.append((times[1] - times[0]) / MORE)
-            print("%7d rows: %8.2f us a commit, %.1f times the first" % (size, costs[-1] * 1e6, costs[-1] / costs[0]))
+                    out.writelines(WRITE % value for value in values)
+                times.append(processor_time(path))
+            cost = (times[1] - times[0]) / MORE
+            first = first or cost
+            print("%7d rows: %8.1f us a commit, %.1f times the first" % (size, cost * 1e6, cost / first))
 
 
 main()
