@@ -400,6 +400,8 @@ struct Stored {
     words: &'static str,
     /// The bytes under the key of category 16, if any.
     row: Option<&'static [u8]>,
+    /// How often they stand there.
+    copies: usize,
     number: u64,
     failing_load: u64,
     /// The numbers of the calls that fail, none of them 0.
@@ -415,6 +417,7 @@ struct Stored {
 const SOUND: Stored = Stored {
     words: "run",
     row: Some(ROW),
+    copies: 1,
     number: 1,
     failing_load: 0,
     failing_applies: [0; 4],
@@ -424,7 +427,7 @@ const SOUND: Stored = Stored {
     kept: (1, 1),
 };
 
-const STORES: [Stored; 13] = [
+const STORES: [Stored; 15] = [
     SOUND,
     Stored {
         input: [READ, READ_OTHER, WRITE_OTHER, READ_OTHER, b""],
@@ -516,6 +519,35 @@ const STORES: [Stored; 13] = [
         status: 7,
         ..SOUND
     },
+    // One key twice.
+    Stored {
+        words: "check",
+        copies: 2,
+        output: [
+            b"damaged category/00000000000000000000000000000010 order\n",
+            b"",
+            b"",
+            b"",
+            b"",
+        ],
+        status: 7,
+        kept: (2, 1),
+        ..SOUND
+    },
+    // A field that no category has.
+    Stored {
+        words: "check",
+        row: Some(b"\x01\x01\x04\x01\0\0\0\0"),
+        output: [
+            b"damaged category/00000000000000000000000000000010 kind\n",
+            b"",
+            b"",
+            b"",
+            b"",
+        ],
+        status: 7,
+        ..SOUND
+    },
     // A category without its position.
     Stored {
         words: "check",
@@ -547,7 +579,9 @@ fn keeper_of(alloc: Global, case: &Stored) -> Result<MemKeeper, Fail> {
             id: 16,
             second: 0,
         };
-        rows.push((key, List::from_vec(Vec::from_slice(alloc, bytes)?)))?;
+        for _ in 0..case.copies {
+            rows.push((key, List::from_vec(Vec::from_slice(alloc, bytes)?)))?;
+        }
     }
     let failing = Vec::from_slice(alloc, &case.failing_applies)?;
     keeper(alloc, rows, case.number, case.failing_load, failing)
