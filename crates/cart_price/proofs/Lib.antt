@@ -1,0 +1,4 @@
+pub mod Halves
+pub mod Ranks
+pub mod Sharing
+pub mod Fairness
