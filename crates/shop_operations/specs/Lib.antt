@@ -1,0 +1,8 @@
+pub mod References
+pub mod Parents
+pub mod Deletes
+pub mod Upserts
+pub mod Views
+pub mod Operations
+pub mod Batches
+pub mod Soundness
