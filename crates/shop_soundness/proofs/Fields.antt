@@ -1,0 +1,139 @@
+-- What a row's fields are after some are taken out, given or filled.
+use Rattle.std.proofs.Common.{◌≡◌, ℕ, Bool, true, false, List, [], ◌∷◌, refl, sym, ap, subst, ◌∙◌, Option, Some, None, arith}
+use Rattle.std.specs.Prelude.{◌==◌, filter, cond, nat_eq, is_some, if◌then◌else◌}
+use Rattle.std.specs.List.{fold, list_any}
+use Rattle.std.specs.Option.{option_map}
+use Rattle.std.specs.declared.cmp.Ordering.{Ordering}
+use Rattle.std.specs.declared.cmp.Ordering.TheVariants.{Less, Equal, Greater}
+use Rattle.std.specs.Ordering.{nat_cmp, match_ordering, is_eq}
+use Rattle.std.proofs.lemmas.Cmp.{ranked}
+use Rattle.std.proofs.lemmas.Bool.{or_parts, eqb-true, eq-eqb}
+use Rattle.keyed.specs.Keyed.{put, without}
+use Rattle.shop_defs.specs.declared.table.FieldInfo.{FieldInfo}
+use Rattle.shop_defs.specs.declared.table.FieldKind.{FieldKind}
+use Rattle.shop_defs.specs.declared.table.FieldKind.TheVariants as K
+use Rattle.shop_defs.specs.declared.table.Preset.{Preset}
+use Rattle.shop_defs.specs.declared.table.Preset.TheVariants as D
+use Rattle.shop_defs.specs.declared.value.Value.{Value}
+use Rattle.shop_defs.specs.declared.value.Value.TheVariants as V
+use Rattle.shop_defs.specs.Presets.{preset_in, preset_of}
+use Rattle.shop_defs.specs.Rows.{field_in}
+use Rattle.shop_operations.specs.References.{ident}
+use Rattle.shop_operations.specs.Upserts.{field_number, give, fill}
+use Rattle.shop_soundness.proofs.Lists.{no_some}
+use Rattle.shop_soundness.proofs.Places.{same_number}
+
+-- a field that stays is as it was, and one that goes is none
+pub field_filter : (keeps : ℕ → Bool) (fields : List (ℕ × Value)) (number : ℕ) → field_in (filter (λ entry. keeps entry.0) fields) number ≡ (if keeps number then field_in fields number else None)
+field_filter keeps [] number = by (keeps number)
+  where
+    by : (b : Bool) → (let n : Option Value = None in n) ≡ (if b then None else None)
+    by true = refl
+    by false = refl
+field_filter keeps (entry ∷ rest) number = by (field_filter keeps rest number) (keeps entry.0) refl (nat_eq entry.0 number) refl
+  where
+    by : field_in (filter (λ e. keeps e.0) rest) number ≡ (if keeps number then field_in rest number else None) → (b : Bool) → keeps entry.0 ≡ b → (c : Bool) → nat_eq entry.0 number ≡ c → field_in (cond b (entry ∷ filter (λ e. keeps e.0) rest) (filter (λ e. keeps e.0) rest)) number ≡ (if keeps number then (if c then Some entry.1 else field_in rest number) else None)
+    by more true e true f = rw f (rw (← ap keeps (eqb-true _ _ f), e) refl)
+    by more true e false f = rw f more
+    by more false e true f = more ∙ rw (← ap keeps (eqb-true _ _ f), e) refl
+    by more false e false f = more
+
+-- ---- a field that is put or taken out
+
+pub put_other : (fields : List (ℕ × Value)) (number at : ℕ) (value : Value) → nat_eq at number ≡ false → field_in (put nat_cmp field_number fields (at, value)) number ≡ field_in fields number
+put_other [] number at value e = rw e refl
+put_other (x ∷ xs) number at value e = by (put_other xs number at value e) (nat_cmp x.0 at) refl
+  where
+    by : field_in (put nat_cmp field_number xs (at, value)) number ≡ field_in xs number → (o : Ordering) → nat_cmp x.0 at ≡ o → field_in (match_ordering o (x ∷ put nat_cmp field_number xs (at, value)) ((at, value) ∷ xs) ((at, value) ∷ x ∷ xs)) number ≡ field_in (x ∷ xs) number
+    by more Less f = rw more refl
+    by more Equal f = rw (e, same_number x.0 at f, e) refl
+    by more Greater f = rw e refl
+
+pub put_same : (fields : List (ℕ × Value)) (at : ℕ) (value : Value) → field_in (put nat_cmp field_number fields (at, value)) at ≡ Some value
+put_same [] at value = rw (eq-eqb at at refl) refl
+put_same (x ∷ xs) at value = by (put_same xs at value) (nat_cmp x.0 at) refl
+  where
+    own : nat_eq at at ≡ true
+    own = eq-eqb at at refl
+
+    by : field_in (put nat_cmp field_number xs (at, value)) at ≡ Some value → (o : Ordering) → nat_cmp x.0 at ≡ o → field_in (match_ordering o (x ∷ put nat_cmp field_number xs (at, value)) ((at, value) ∷ xs) ((at, value) ∷ x ∷ xs)) at ≡ Some value
+    by more Less f = other (nat_eq x.0 at) refl
+      where
+        other : (b : Bool) → nat_eq x.0 at ≡ b → (if b then Some x.1 else field_in (put nat_cmp field_number xs (at, value)) at) ≡ Some value
+        other true e = absurd (omega (arith, eqb-true x.0 at e, ranked x.0 at Less (sym f)))
+        other false e = more
+    by more Equal f = rw own refl
+    by more Greater f = rw own refl
+
+pub without_other : (fields : List (ℕ × Value)) (number at : ℕ) → nat_eq at number ≡ false → field_in (without nat_cmp field_number fields at) number ≡ field_in fields number
+without_other [] number at e = refl
+without_other (x ∷ xs) number at e = by (without_other xs number at e) (nat_cmp x.0 at) refl
+  where
+    by : field_in (without nat_cmp field_number xs at) number ≡ field_in xs number → (o : Ordering) → nat_cmp x.0 at ≡ o → field_in (if is_eq o then xs else x ∷ without nat_cmp field_number xs at) number ≡ field_in (x ∷ xs) number
+    by more Less f = rw more refl
+    by more Equal f = rw (same_number x.0 at f, e) refl
+    by more Greater f = rw more refl
+
+-- what isn't there isn't there when another is taken out
+pub without_none : (fields : List (ℕ × Value)) (number at : ℕ) → field_in fields number ≡ None → field_in (without nat_cmp field_number fields at) number ≡ None
+without_none [] number at e = refl
+without_none (x ∷ xs) number at e = by (without_none xs number at) (nat_eq x.0 number) refl (is_eq (nat_cmp x.0 at)) e
+  where
+    by : (field_in xs number ≡ None → field_in (without nat_cmp field_number xs at) number ≡ None) → (b : Bool) → nat_eq x.0 number ≡ b → (c : Bool) → (if b then Some x.1 else field_in xs number) ≡ None → field_in (if c then xs else x ∷ without nat_cmp field_number xs at) number ≡ None
+    by more true f c g = absurd (no_some x.1 (sym g))
+    by more false f true g = g
+    by more false f false g = rw f (more g)
+
+-- ---- a field that is given
+
+pub give_other : (fields : List (ℕ × Value)) (number at : ℕ) (value : Option Value) → nat_eq at number ≡ false → field_in (give fields (at, value)) number ≡ field_in fields number
+give_other fields number at None e = without_other fields number at e
+give_other fields number at (Some value) e = put_other fields number at value e
+
+-- a field that isn't given is as it was
+pub given_other : (entries : List (ℕ × Option Value)) (fields : List (ℕ × Value)) (number : ℕ) → list_any (λ entry. entry.0 == number) entries ≡ false → field_in (fold give fields entries) number ≡ field_in fields number
+given_other [] fields number e = refl
+given_other (entry ∷ rest) fields number e =
+    let parts = or_parts (entry.0 == number) (list_any (λ x. x.0 == number) rest) e in
+    given_other rest (give fields entry) number parts.1 ∙ give_other fields number entry.0 entry.1 parts.0
+
+-- ---- presets
+
+word_no_id : (text : Option (List ℕ)) → ident (option_map V.Text text) ≡ None
+word_no_id None = refl
+word_no_id (Some text) = refl
+
+-- a preset is no id
+no_preset : (kind : FieldKind) (preset : Preset) → ident (preset_in kind preset) ≡ None
+no_preset kind D.Absent = refl
+no_preset kind (D.Flag flag) = refl
+no_preset kind (D.Int number) = refl
+no_preset (K.Choice choice) D.FirstWord = word_no_id _
+no_preset K.Flag D.FirstWord = refl
+no_preset (K.Int low high) D.FirstWord = refl
+no_preset K.Interval D.FirstWord = refl
+no_preset (K.Text low high) D.FirstWord = refl
+no_preset (K.Id entity) D.FirstWord = refl
+no_preset K.Loose D.FirstWord = refl
+no_preset K.Day D.FirstWord = refl
+
+-- where a field is filled there is no id
+filled_none : (fields : List (ℕ × Value)) (number : ℕ) (value : Option Value) → field_in fields number ≡ None → ident value ≡ None → ident (field_in (give fields (number, value)) number) ≡ None
+filled_none fields number None e f = ap ident (without_none fields number number e)
+filled_none fields number (Some value) e f = ap ident (put_same fields number value) ∙ f
+
+-- an id that is there after a fill was there
+fill_ident : (fields : List (ℕ × Value)) (field : FieldInfo) (number id : ℕ) → ident (field_in (fill fields field) number) ≡ Some id → ident (field_in fields number) ≡ Some id
+fill_ident fields field number id h = by (field_in fields field.number) refl h
+  where
+    by_number : field_in fields field.number ≡ None → (b : Bool) → nat_eq field.number number ≡ b → ident (field_in (give fields (field.number, preset_of field)) number) ≡ Some id → ident (field_in fields number) ≡ Some id
+    by_number n false e g = sym (ap ident (give_other fields number field.number (preset_of field) e)) ∙ g
+    by_number n true e g = absurd (no_some id (sym (filled_none fields field.number (preset_of field) n (no_preset field.kind field.preset)) ∙ subst (λ m. ident (field_in (give fields (field.number, preset_of field)) m) ≡ Some id) (sym (eqb-true field.number number e)) g))
+
+    by : (there : Option Value) → field_in fields field.number ≡ there → ident (field_in (if is_some there then fields else give fields (field.number, preset_of field)) number) ≡ Some id → ident (field_in fields number) ≡ Some id
+    by (Some value) f g = g
+    by None f g = by_number f (nat_eq field.number number) refl g
+
+pub filled_ident : (table : List FieldInfo) (fields : List (ℕ × Value)) (number id : ℕ) → ident (field_in (fold fill fields table) number) ≡ Some id → ident (field_in fields number) ≡ Some id
+filled_ident [] fields number id h = h
+filled_ident (field ∷ rest) fields number id h = fill_ident fields field number id (filled_ident rest (fill fields field) number id h)

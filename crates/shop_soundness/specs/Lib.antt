@@ -1,0 +1,3 @@
+pub mod Coherence
+pub mod WellFormed
+pub mod Origins
