@@ -1,3 +1,17 @@
 pub mod ChangedRows
 pub mod Entries
 pub mod KeptKinds
+pub mod Lists
+pub mod Same
+pub mod Mentioning
+pub mod FewTopics
+pub mod SortedOnce
+pub mod BuiltMentions
+pub mod Runs
+pub mod Rising
+pub mod SameLists
+pub mod FoundByTopic
+pub mod Twins
+pub mod Referring
+pub mod LookedUp
+pub mod Alike

@@ -4,3 +4,10 @@ pub mod Rules
 pub mod Soundness
 pub mod Damage
 pub mod Found
+pub mod Lookups
+pub mod Owners
+pub mod Prints
+pub mod Topics
+pub mod TopicOrder
+pub mod Mentions
+pub mod Searches

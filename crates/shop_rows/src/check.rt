@@ -9,7 +9,7 @@ ghost use Rattle.shop_rows.specs.Found.{IsReadFrom, HasRead};
 use crate::fault::{CheckFault, Rule};
 use crate::kind::passes_kind;
 use crate::rows::Rows;
-use shop_defs::{Key, List, Row, has_needed};
+use shop_defs::{Key, List, NoMemory, Row, has_needed};
 use shop_kept::{DecodeFault, decode_row};
 use std::alloc::Global;
 
@@ -30,7 +30,10 @@ pub fn check_rows(alloc: Global, kept: &[(Key, List<u8>)]) -> Result<Rows, Check
     ensures sound { (rows : List Row) → spec.AreSound rows → spec.kept rows ≡ kept.now → MatchResult result (λ found. found.list ≡ rows) IsWantOfMemory }
 {
     match read_rows(alloc, kept) {
-        Ok(rows) => Ok(Rows::from_ascending(rows)),
+        Ok(rows) => match Rows::from_ascending(alloc, rows) {
+            Ok(rows) => Ok(rows),
+            Err(NoMemory) => Err(CheckFault::NoMemory),
+        },
         Err(fault) => Err(fault),
     }
 }
