@@ -1,0 +1,10 @@
+use Rattle.std.proofs.Common.{sym, ◌∙◌}
+use Rattle.shop_write.proofs.IdsDown.{none_sinks}
+use Rattle.shop_write.proofs.KeptParent.{kept_parent}
+use Rattle.shop_write.proofs.depth.too_deep.Goals as goal
+
+pub returns-in-None : goal.returns-in-None
+returns-in-None g c = none_sinks (g.V.View.seen c.args.view.now) c.args.row.now c.requires.write (sym c.in-None.ensures)
+
+pub returns-in-Some : goal.returns-in-Some
+returns-in-Some g c = kept_parent (g.V.View.seen c.args.view.now) c.args.row.now c.requires.write (sym c.keeps_parent.ensures ∙ c.if-keeps_parent.true)

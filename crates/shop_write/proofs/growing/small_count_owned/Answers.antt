@@ -1,0 +1,14 @@
+use Rattle.std.proofs.Common.{arith, ap, length}
+use Rattle.std.proofs.lemmas.List.Sums.{count_by-le-length, length-filter}
+use Rattle.shop_operations.specs.References.{is_live, live}
+use Rattle.shop_rows.specs.Owners.{belongs}
+use Rattle.shop_write.proofs.growing.small_count_owned.Goals as goal
+
+pub returns-clause-small : goal.returns-clause-small
+returns-clause-small c =
+    let rows = c.args.rows.now.list in
+    let owned = count_by-le-length (belongs c.args.limit.now c.args.owner) (live rows) in
+    let shown = length-filter is_live rows in
+    let all = count_by-le-length is_live rows in
+    let same = ap length c.as_slice-all.ensures.rows in
+    omega arith

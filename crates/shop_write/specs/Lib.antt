@@ -1,0 +1,10 @@
+pub mod Planning
+pub mod Steps
+pub mod Writes
+pub mod Places
+pub mod Searching
+pub mod Deleting
+pub mod Reaching
+pub mod Seen
+pub mod Growth
+pub mod BatchPlans

@@ -1,0 +1,50 @@
+//! What one operation changes, or the first rule that it breaks.
+ghost use Rattle.std.specs.Prelude.{◌≡◌, true};
+ghost use Rattle.shop_defs.specs.Fitting.{op_fits};
+ghost use Rattle.shop_defs.specs.declared.refused.PlanFault.TheVariants as faults;
+ghost use Rattle.shop_operations.specs.Operations as spec;
+ghost use Rattle.shop_operations.specs.Soundness.{IsCoherent};
+ghost use Rattle.shop_write.specs.Planning.{Planned};
+
+use crate::delete::plan_delete;
+use crate::upsert::plan_upsert;
+use crate::view::View;
+use shop_defs::{Broken, Delta, Key, Op, OpKind, PlanFault, Refused};
+use std::alloc::Global;
+
+/// What the operation changes about the rows of the view, or the first rule that it breaks, in a
+/// refusal without a number of the operation.
+///
+/// The keys of the changes ascend: each is the own key of a row of the view, or the one at which the
+/// view shows a row that is inserted. With `replay` a delete of a row that isn't there changes
+/// nothing. The other error is want of memory. An upsert asks for rows that fit one another; what a
+/// delete changes is exact over any rows.
+pub fn plan_op<V: View>(alloc: Global, view: &V, op: &Op, replay: bool) -> Result<Delta, PlanFault>
+    requires coherent { op.now.kind ≡ OpKind.Upsert → IsCoherent (V.seen view.now) }
+    requires fits { op_fits op.now ≡ true }
+    ensures { Planned (V.seen view.now) op.now replay result }
+{
+    match op.kind {
+        OpKind::Upsert => plan_upsert(alloc, view, op),
+        OpKind::Delete => plan_delete(alloc, view, op, replay),
+    }
+}
+
+/// The key at which the view shows the row that the operation is on.
+pub(crate) fn place_of<V: View>(view: &V, op: &Op) -> Key
+    ensures { result ≡ spec.place (V.seen view.now) op.now }
+{
+    Key {
+        entity: op.entity,
+        version: view.version(),
+        id: op.id,
+        second: op.second,
+    }
+}
+
+/// The refusal of an operation that is planned by itself, and so has no number.
+pub(crate) fn refused(broken: Broken) -> PlanFault
+    ensures { result ≡ faults.Refused (record { op = 0; broken = broken }) }
+{
+    PlanFault::Refused(Refused { op: 0, broken })
+}
