@@ -1,0 +1,4 @@
+pub mod Chains
+pub mod Inheriting
+pub mod Translations
+pub mod Showing
