@@ -1,6 +1,4 @@
 pub mod ChangedRows
-pub mod Entries
-pub mod KeptKinds
 pub mod Lists
 pub mod Same
 pub mod Mentioning

@@ -1,9 +1,4 @@
 pub mod Changing
-pub mod Kinds
-pub mod Rules
-pub mod Soundness
-pub mod Damage
-pub mod Found
 pub mod Lookups
 pub mod Owners
 pub mod Prints

@@ -1,0 +1,9 @@
+pub mod KeptKinds
+pub mod Orders
+pub mod Ones
+pub mod Levels
+pub mod Entries
+pub mod Counted
+pub mod Owners
+pub mod Coherence
+pub mod Laws

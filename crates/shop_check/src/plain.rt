@@ -1,0 +1,58 @@
+//! Rows in any order, in which each look-up walks over all of them.
+ghost use Rattle.std.specs.Prelude.{◌≡◌, ◌&&◌, count_by};
+ghost use Rattle.std.specs.Ordering.{is_le};
+ghost use Rattle.shop_defs.specs.Keys.{key_cmp};
+ghost use Rattle.shop_operations.specs.References.{is_entity, is_one};
+
+use crate::others::{Others, agree_within, count_owned_up_to, is_live, is_up_to};
+use shop_defs::{Entity, OwnerLimit, Reference, Row};
+use shop_operations::{is_twin, ties};
+
+impl Others for Vec<Row> {
+    ghost rows = { λ rows. rows.items };
+
+    fn one<'a>(&'a self, entity: Entity, id: u128) -> Option<&'a Row> {
+        self.as_slice()
+            .iter()
+            .filter(|row| is_live(row))
+            .find(|row| is_one(entity, id, row))
+    }
+
+    fn is_of_tree(&self, reference: &Reference, row: &Row) -> bool {
+        self.as_slice().iter().filter(|other| is_live(other)).all(|other| {
+            !ties(reference, row, other) || agree_within(reference.within, row, other)
+        })
+    }
+
+    fn has_lower_twin(&self, row: &Row) -> bool {
+        self.as_slice().iter().filter(|other| is_live(other)).any(|other| other
+            .key
+            .order(&row.key)
+            .is_lt()
+            && is_twin(row, other))
+    }
+
+    fn count_up_to(&self, row: &Row) -> usize {
+        count_up_to(self.as_slice(), row)
+    }
+
+    fn is_owner_full(&self, limit: &OwnerLimit, row: &Row) -> bool {
+        limit.entity == row.key.entity
+            && count_owned_up_to(self.as_slice(), limit, row) > limit.most as usize
+    }
+}
+
+fn is_one(entity: Entity, id: u128, row: &Row) -> bool
+    ensures { result ≡ is_one entity id row.now }
+{
+    entity == row.key.entity && id == row.key.id
+}
+
+/// How many rows of the row's entity there are, up to the row in the order of keys.
+fn count_up_to(rows: &[Row], row: &Row) -> usize
+    ensures { result ≡ count_by (λ other. is_le (key_cmp other.key row.now.key) && is_entity row.now.key.entity other.key.entity) rows.now }
+{
+    rows.iter()
+        .filter(|other| is_up_to(row, other) && row.key.entity == other.key.entity)
+        .count()
+}
