@@ -1,0 +1,10 @@
+use Rattle.std.proofs.Common.{◌≡◌}
+use Rattle.serde_json.specs.View.{members_view}
+use Rattle.body_json.specs.Shapes.{names, unknown}
+use Rattle.body_json.proofs.members.unknown_member.Given as goal
+
+abbrev pub invariant-loop-name : goal.invariant-loop-name
+invariant-loop-name l =
+    (goal.iterator-loop-name).can_next l.name-iterator ×
+    (goal.iterator-loop-name).is_finite l.name-iterator ×
+    (unknown (names l.kind) (members_view l.members.entries) ≡ unknown (names l.kind) (members_view l.name-iterator))
