@@ -1,0 +1,189 @@
+//! A body while it is printed.
+ghost use Rattle.std.specs.Prelude.{◌≡◌, [], ◌∷◌, ◌++◌, decimal, string_bytes, IfOk, OnOk};
+ghost use Rattle.std.specs.Fmt.{signed_decimal};
+ghost use Rattle.json.specs.Token.{begin_object, end_object, begin_array, end_array, key, string, number, boolean, null};
+ghost use Rattle.json.specs.Print.{print};
+ghost use Rattle.shop_defs.specs.Ids.{id_text};
+ghost use Rattle.serde_json.specs.Data as json;
+ghost use Rattle.reply_json.specs.KeyTexts.{key_text};
+ghost use Rattle.reply_json.specs.Objects.{count_data, number_data, id_data, key_data};
+ghost use Rattle.reply_json.specs.Tokens.{member_tokens};
+
+use crate::ascii::as_text;
+use crate::keys::key_text;
+use itoa::Buffer;
+use json::Writer;
+use shop_defs::{Key, List, NoMemory, print_id};
+use std::alloc::Global;
+use std::marker::Model;
+
+/// How many bytes a body may have before its buffer is made larger.
+const ROOM: usize = 256;
+
+/// A body while it is printed, into one buffer. Contracts see the tokens that it has so far.
+///
+/// Where a method answers want of memory, the body is to be let go.
+#[derive(Drop)]
+pub(crate) struct Body {
+    out: Writer,
+}
+
+impl Model for Body {
+    ghost use Rattle.std.specs.Prelude.{◌≡◌, List, []};
+    ghost use Rattle.json.specs.Token.{Token, tokens_code};
+
+    ghost Value = { List Token };
+
+    ghost coded = { tokens_code };
+
+    ghost view = { λ body. body.out.tokens };
+
+    ghost invariant = { λ body. body.out.before ≡ [] };
+}
+
+impl Body {
+    /// A body with nothing in it.
+    pub(crate) fn new(alloc: Global) -> Result<Body, NoMemory>
+        ensures { IfOk result (λ body. body ≡ []) }
+    {
+        Ok(Body {
+            out: Writer::new(Vec::with_capacity(alloc, ROOM)?),
+        })
+    }
+
+    /// The bytes that are printed.
+    pub(crate) fn finish(self) -> List<u8>
+        ensures { result ≡ print self }
+    {
+        let Body { out } = self;
+        List::from_vec(out.into_inner())
+    }
+
+    pub(crate) fn begin_object(&mut self) -> Result<(), NoMemory>
+        ensures { OnOk result (self.new ≡ self.old ++ begin_object ∷ []) }
+    {
+        self.out.begin_object()?;
+        Ok(())
+    }
+
+    pub(crate) fn end_object(&mut self) -> Result<(), NoMemory>
+        ensures { OnOk result (self.new ≡ self.old ++ end_object ∷ []) }
+    {
+        self.out.end_object()?;
+        Ok(())
+    }
+
+    pub(crate) fn begin_array(&mut self) -> Result<(), NoMemory>
+        ensures { OnOk result (self.new ≡ self.old ++ begin_array ∷ []) }
+    {
+        self.out.begin_array()?;
+        Ok(())
+    }
+
+    pub(crate) fn end_array(&mut self) -> Result<(), NoMemory>
+        ensures { OnOk result (self.new ≡ self.old ++ end_array ∷ []) }
+    {
+        self.out.end_array()?;
+        Ok(())
+    }
+
+    /// The name of a member, before its value.
+    pub(crate) fn name(&mut self, name: &str) -> Result<(), NoMemory>
+        ensures { OnOk result (self.new ≡ self.old ++ key name.now ∷ []) }
+    {
+        self.out.key(name)?;
+        Ok(())
+    }
+
+    pub(crate) fn text(&mut self, text: &str) -> Result<(), NoMemory>
+        ensures { OnOk result (self.new ≡ self.old ++ string text.now ∷ []) }
+    {
+        self.out.string(text)?;
+        Ok(())
+    }
+
+    pub(crate) fn count(&mut self, count: u64) -> Result<(), NoMemory>
+        ensures { OnOk result (self.new ≡ self.old ++ number (decimal count) ∷ []) }
+    {
+        self.out.u64(count)?;
+        Ok(())
+    }
+
+    pub(crate) fn number(&mut self, amount: i64) -> Result<(), NoMemory>
+        ensures { OnOk result (self.new ≡ self.old ++ number (signed_decimal amount) ∷ []) }
+    {
+        self.out.i64(amount)?;
+        Ok(())
+    }
+
+    pub(crate) fn flag(&mut self, flag: bool) -> Result<(), NoMemory>
+        ensures { OnOk result (self.new ≡ self.old ++ boolean flag ∷ []) }
+    {
+        self.out.boolean(flag)?;
+        Ok(())
+    }
+
+    pub(crate) fn null(&mut self) -> Result<(), NoMemory>
+        ensures { OnOk result (self.new ≡ self.old ++ null ∷ []) }
+    {
+        self.out.null()?;
+        Ok(())
+    }
+
+    /// An id, as its text.
+    pub(crate) fn id(&mut self, id: u128) -> Result<(), NoMemory>
+        ensures { OnOk result (self.new ≡ self.old ++ string (id_text id) ∷ []) }
+    {
+        self.text(as_text(&print_id(id)))
+    }
+
+    /// A key, as its text.
+    pub(crate) fn key(&mut self, key: &Key) -> Result<(), NoMemory>
+        ensures { OnOk result (self.new ≡ self.old ++ string (key_text key.now) ∷ []) }
+    {
+        self.text(key_text(key).as_str())
+    }
+
+    pub(crate) fn text_member(&mut self, name: &str, text: &str) -> Result<(), NoMemory>
+        ensures { OnOk result (self.new ≡ self.old ++ member_tokens name.now (json.string text.now)) }
+    {
+        self.name(name)?;
+        self.text(text)
+    }
+
+    pub(crate) fn count_member(&mut self, name: &str, count: u32) -> Result<(), NoMemory>
+        ensures { OnOk result (self.new ≡ self.old ++ member_tokens name.now (count_data count)) }
+    {
+        self.name(name)?;
+        self.count(u64::from(count))
+    }
+
+    pub(crate) fn number_member(&mut self, name: &str, amount: &i64) -> Result<(), NoMemory>
+        ensures { OnOk result (self.new ≡ self.old ++ member_tokens name.now (number_data amount.now)) }
+    {
+        self.name(name)?;
+        self.number(*amount)
+    }
+
+    /// A number as a text, since a reader may hold numbers in a type that has no room for it.
+    pub(crate) fn wide_member(&mut self, name: &str, amount: &i128) -> Result<(), NoMemory>
+        ensures { OnOk result (self.new ≡ self.old ++ member_tokens name.now (json.string (signed_decimal amount.now))) }
+    {
+        let mut digits = Buffer::new();
+        self.text_member(name, digits.format(*amount))
+    }
+
+    pub(crate) fn id_member(&mut self, name: &str, id: u128) -> Result<(), NoMemory>
+        ensures { OnOk result (self.new ≡ self.old ++ member_tokens name.now (id_data id)) }
+    {
+        self.name(name)?;
+        self.id(id)
+    }
+
+    pub(crate) fn key_member(&mut self, name: &str, key: &Key) -> Result<(), NoMemory>
+        ensures { OnOk result (self.new ≡ self.old ++ member_tokens name.now (key_data key.now)) }
+    {
+        self.name(name)?;
+        self.key(key)
+    }
+}
