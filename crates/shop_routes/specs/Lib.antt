@@ -6,3 +6,4 @@ pub mod Laws
 pub mod Routing
 pub mod Filling
 pub mod Seen
+pub mod Later

@@ -4,6 +4,7 @@
 
 mod endpoint;
 mod headers;
+mod later;
 mod numerals;
 mod parts;
 mod router;

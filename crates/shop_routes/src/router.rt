@@ -67,9 +67,9 @@ pub struct Routes {
 
 /// A line of the table, and the parts of the target that its names stand for.
 #[derive(Drop)]
-struct Found<'r, 'p> {
-    asked: Asked,
-    params: Params<'r, 'p>,
+pub(crate) struct Found<'r, 'p> {
+    pub(crate) asked: Asked,
+    pub(crate) params: Params<'r, 'p>,
 }
 
 impl Routes {
@@ -105,7 +105,7 @@ impl Routes {
     }
 
     /// The line of the table that a target has.
-    fn find<'r, 'p>(&'r self, target: &'p [u8]) -> Option<Found<'r, 'p>>
+    pub(crate) fn find<'r, 'p>(&'r self, target: &'p [u8]) -> Option<Found<'r, 'p>>
         ensures { MatchOption result (found target.now ≡ None) (λ f.
             (found target.now ≡ Some (seen f)) × AllText (parts_seen f.params)) }
     {
@@ -151,7 +151,7 @@ fn has_plain_bytes(target: &[u8]) -> bool
 }
 
 /// The method as it stands in a head.
-fn method_text(method: Method2) -> &'static [u8]
+pub(crate) fn method_text(method: Method2) -> &'static [u8]
     ensures { result.now ≡ method_text method }
 {
     match method {
@@ -169,7 +169,7 @@ fn wrong_method(found: &Found<'_, '_>) -> RouteFault
 }
 
 /// Whether 32 digits `0` may stand for an id.
-fn allows_nil(endpoint: Endpoint) -> bool
+pub(crate) fn allows_nil(endpoint: Endpoint) -> bool
     ensures { result ≡ allows_nil endpoint }
 {
     matches!(endpoint, Endpoint::RowList)

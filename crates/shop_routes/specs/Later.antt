@@ -1,0 +1,17 @@
+-- Requests whose answer isn't there yet.
+use Rattle.std.specs.Prelude.{◌==◌, Bool, true, false, not, Result, Ok, Err}
+use Rattle.shop_defs.specs.declared.route.Route.{Route}
+use Rattle.shop_defs.specs.declared.route.Route.TheVariants as routes
+use Rattle.shop_routes.specs.declared.router.RouteFault.{RouteFault}
+
+-- what is answered so far: a batch for the live version, a row, and a list of rows
+abbrev pub is_later : Route → Bool
+is_later (routes.Sync version) = not (version == 0)
+is_later (routes.Row read) = false
+is_later (routes.RowList entity id second) = false
+is_later _ = true
+
+-- a request that breaks no rule asks for what isn't answered yet
+abbrev pub asks_later : Result Route RouteFault → Bool
+asks_later (Ok route) = is_later route
+asks_later (Err fault) = false
