@@ -13,7 +13,7 @@ use Rattle.shop_defs.specs.Rows.{row_key, change_row, change_rows, IsInKeyOrder}
 use Rattle.shop_kept.specs.Spelling.{kept_row}
 use Rattle.shop_outside.specs.declared.keeper.Kept.{Kept}
 use Rattle.shop_outside.specs.Keeping.{Bodies, BodyChanges, kept_key, body_change, body_changes, Applied}
-use Rattle.shop_rows.specs.Soundness.{kept}
+use Rattle.shop_check.specs.Soundness.{kept}
 use Rattle.shop_rows.specs.Changing.{StandsUnderItsKey, StandUnderTheirKeys}
 use Rattle.shop_core.specs.Plans.{encoded}
 use Rattle.shop_core.specs.Shops.{HoldsKept}

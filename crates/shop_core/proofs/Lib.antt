@@ -1,6 +1,12 @@
 pub mod Bodies
+pub mod LiveRows
+pub mod RowForms
+pub mod Batches
+pub mod Encodings
 pub mod Histories
-pub mod Insertions
 pub mod Replaying
 pub mod Sound
+pub mod Planning
 pub mod Stepping
+pub mod TableLines
+pub mod Listed

@@ -1,76 +1,78 @@
 -- Steps leave sound rows sound.
-use Rattle.std.proofs.Common.{◌≡◌, ℕ, ℤ, pos, ◌==◌, Bool, true, false, not, List, [], ◌∷◌, Option, Some, None, is_some, refl, subst, cond, arith}
-use Rattle.std.proofs.lemmas.Int.{ints}
-use Rattle.std.specs.declared.cmp.Ordering.{Ordering}
-use Rattle.std.specs.declared.cmp.Ordering.TheVariants.{Less, Equal, Greater}
+use Rattle.std.proofs.Common.{◌≡◌, ℕ, zero, ℤ, List, [], ◌∷◌, Result, Ok, Err, refl, sym, subst}
 use Rattle.std.specs.List.{AllByRecursion}
-use Rattle.keyed.specs.Keyed.{put}
-use Rattle.keyed.proofs.Changes.{ascends_put}
+use Rattle.closure.specs.Closure.{IsIn}
 use Rattle.shop_defs.specs.declared.command.Command.{Command}
+use Rattle.shop_defs.specs.declared.command.Command.TheVariants as commands
+use Rattle.shop_defs.specs.declared.op.RawOp.{RawOp}
+use Rattle.shop_defs.specs.declared.refused.Refused.{Refused}
 use Rattle.shop_defs.specs.declared.row.Row.{Row}
-use Rattle.shop_defs.specs.Keys.{key_cmp}
-use Rattle.shop_defs.specs.Rows.{row_at, row_key}
-use Rattle.shop_defs.proofs.Keys.{key_cmp_total}
-use Rattle.shop_defs.specs.Fitting.{has_needed}
-use Rattle.shop_defs.specs.Tables.{info_of, fields_of}
-use Rattle.shop_rows.specs.Kinds.{passes_kind}
-use Rattle.shop_rows.specs.Soundness.{AreSound, IsSoundRow}
-use Rattle.shop_core.specs.Steps.{Stepped, accepted, refused, unbuilt, effect, inserted, step, with_category, category_key, default_category}
-use Rattle.shop_core.specs.History.{State, Entry, step_at, after_step, after_entry, replay, RowsStaySound}
-use Rattle.shop_core.proofs.Stepping.{accepted_effect, inserted_has_id}
+use Rattle.shop_kept.specs.Spelling.{IsKeptRow}
+use Rattle.shop_operations.specs.Batches.{live_batch}
+use Rattle.shop_operations.specs.References.{live}
+use Rattle.shop_check.specs.Soundness.{AreSound}
+use Rattle.shop_core.specs.Ranges.{IsRawOp}
+use Rattle.shop_core.specs.Steps.{Stepped, accepted, refused, unbuilt, IsBatch, IsBuilt, with_live, batched, effect, step}
+use Rattle.shop_core.specs.History.{State, Entry, step_at, after_step, after_entry, replay, MayBeGiven, RowsStaySound}
+use Rattle.shop_core.proofs.Batches.{left_by_batch, left_is_sound, stays_live}
+use Rattle.shop_core.proofs.Encodings.{left_is_kept}
+use Rattle.shop_core.proofs.Stepping.{accepted_effect}
 
--- what holds of each row and of one more holds of each after a put of that one
-all_put : (P : Row → Type 0) (rows : List Row) (row : Row) → AllByRecursion P rows → P row → AllByRecursion P (put key_cmp row_key rows row)
-all_put P [] row all p = (p, tt)
-all_put P (x ∷ rows) row all p = by (all_put P rows row all.1 p) (key_cmp x.key row.key) refl
-  where
-    by : AllByRecursion P (put key_cmp row_key rows row) → (o : Ordering) → key_cmp x.key row.key ≡ o → AllByRecursion P (put key_cmp row_key (x ∷ rows) row)
-    by more Less e = rw e (all.0, more)
-    by more Equal e = rw e (p, all.1)
-    by more Greater e = rw e (p, all)
+-- each live row has a spelling
+abbrev pub AreSpelled : List Row → Type 0
+AreSpelled rows = (row : Row) → IsIn row (live rows) → IsKeptRow row
 
-kind_of_default : (id : ℕ) → not (id == 0) ≡ true → passes_kind (default_category id) ≡ true
-unfolding info_of fields_of
-kind_of_default id some = rw some refl
+module _ (rows now : List Row) (ops : List RawOp) (value : ℤ) (sound : AreSound rows) (batch : IsBatch ops) where
+  -- live rows that the batch leaves and that have a spelling make all sound
+  left_sound : (left : List Row) → live_batch rows ops ≡ Ok left → with_live rows left ≡ now → AreSpelled now → AreSound now
+  left_sound left done same spelled =
+      let leaves = left_by_batch rows sound left ops batch.ids done in
+      let stays : live (with_live rows left) ≡ left = stays_live rows left sound leaves in
+      subst AreSound same
+      (left_is_sound rows left sound leaves
+      (λ row i. spelled row (subst (λ (l : List Row). IsIn row (live l)) same (subst (λ (l : List Row). IsIn row l) (sym stays) i))))
 
-needed_of_default : (id : ℕ) → has_needed (default_category id) ≡ true
-unfolding info_of fields_of
-needed_of_default id = refl
+  batch_is_sound : (result : Result (List Row) Refused) → live_batch rows ops ≡ result → batched rows ops result ≡ accepted now value → AreSpelled now → AreSound now
+  batch_is_sound (Ok left) done e spelled = let same : with_live rows left ≡ now = cc in left_sound left done same spelled
+  batch_is_sound (Err rule) done e spelled = absurd cc
 
--- a category with its defaults keeps all rules
-default_is_sound : (id : ℕ) → not (id == 0) ≡ true → IsSoundRow (default_category id)
-default_is_sound id some = record { encoding = search (arith, ints); kind = kind_of_default id some; required = needed_of_default id }
+  left_spelled : AllByRecursion IsRawOp ops → (left : List Row) → live_batch rows ops ≡ Ok left → with_live rows left ≡ now → AreSpelled now
+  left_spelled ranged left done same =
+      let leaves = left_by_batch rows sound left ops batch.ids done in
+      let stays : live (with_live rows left) ≡ left = stays_live rows left sound leaves in
+      subst AreSpelled same (λ row i. left_is_kept rows left ops sound ranged done leaves row (subst (λ (l : List Row). IsIn row l) stays i))
 
-sound_with : (rows : List Row) (id : ℕ) → not (id == 0) ≡ true → AreSound rows → (b : Bool) → AreSound (cond b rows (put key_cmp row_key rows (default_category id)))
-sound_with rows id some sound true = sound
-sound_with rows id some sound false = record {
-  order = ascends_put key_cmp row_key key_cmp_total rows (default_category id) sound.order;
-  each = all_put IsSoundRow rows (default_category id) sound.each (default_is_sound id some);
-}
+  batch_is_spelled : AllByRecursion IsRawOp ops → (result : Result (List Row) Refused) → live_batch rows ops ≡ result → batched rows ops result ≡ accepted now value → AreSpelled now
+  batch_is_spelled ranged (Ok left) done e = let same : with_live rows left ≡ now = cc in left_spelled ranged left done same
+  batch_is_spelled ranged (Err rule) done e = absurd cc
 
-inserted_sound : (rows now : List Row) (command : Command) (value : ℤ) (found : Option ℕ) → inserted command ≡ found → AreSound rows → (elim found [ Some id ↦ accepted (with_category rows id) (pos 1) | None ↦ unbuilt ]) ≡ accepted now value → AreSound now
-inserted_sound rows now command value (Some id) found sound e = subst AreSound (cc) (sound_with rows id (inserted_has_id command id found) sound (is_some (row_at rows (category_key id))))
-inserted_sound rows now command value None found sound e = (cc)
+-- what a command leaves of sound rows is sound, where its live rows have a spelling
+pub effect_is_sound : (rows now : List Row) (command : Command) (moment value : ℤ) → AreSound rows → IsBuilt command → effect rows command moment ≡ accepted now value → AreSpelled now → AreSound now
+effect_is_sound rows now (commands.Sync zero ops) moment value sound built e spelled = batch_is_sound rows now ops value sound built (live_batch rows ops) refl e spelled
+effect_is_sound rows now command moment value sound built e spelled = absurd built
 
--- what a command leaves of sound rows is sound
-pub effect_is_sound : (rows now : List Row) (command : Command) (moment value : ℤ) → AreSound rows → effect rows command moment ≡ accepted now value → AreSound now
-effect_is_sound rows now command moment value sound e = inserted_sound rows now command value (inserted command) refl sound e
+-- they have one where the parts of the command are in the ranges of their types
+effect_is_spelled : (rows now : List Row) (command : Command) (moment value : ℤ) → AreSound rows → MayBeGiven command → effect rows command moment ≡ accepted now value → AreSpelled now
+effect_is_spelled rows now (commands.Sync zero ops) moment value sound may e = batch_is_spelled rows now ops value sound may.0 may.1 (live_batch rows ops) refl e
+effect_is_spelled rows now command moment value sound may e = absurd may.0
 
-step_is_sound : (rows now : List Row) (number : ℕ) (command : Command) (moment value : ℤ) → AreSound rows → step rows number command moment ≡ accepted now value → AreSound now
-step_is_sound rows now number command moment value sound e = effect_is_sound rows now command moment value sound (accepted_effect rows now number command moment value e)
+step_is_sound : (rows now : List Row) (number : ℕ) (command : Command) (moment value : ℤ) → AreSound rows → MayBeGiven command → step rows number command moment ≡ accepted now value → AreSound now
+step_is_sound rows now number command moment value sound may e =
+    let done = accepted_effect rows now number command moment value e in
+    effect_is_sound rows now command moment value sound may.0 done (effect_is_spelled rows now command moment value sound may done)
 
 stepped_sound : (state : State) (s : Stepped) → AreSound state.rows → ((now : List Row) (value : ℤ) → s ≡ accepted now value → AreSound now) → AreSound (after_step state s).rows
 stepped_sound state (accepted rows value) sound more = more rows value refl
 stepped_sound state (refused rule) sound more = sound
 stepped_sound state unbuilt sound more = sound
 
-entry_is_sound : (state : State) (entry : Entry) → AreSound state.rows → AreSound (after_entry state entry).rows
-entry_is_sound state entry sound = stepped_sound state (step_at state entry) sound (λ now value e. step_is_sound state.rows now state.number entry.command entry.moment value sound e)
+entry_is_sound : (state : State) (entry : Entry) → AreSound state.rows → MayBeGiven entry.command → AreSound (after_entry state entry).rows
+entry_is_sound state entry sound may = stepped_sound state (step_at state entry) sound (λ now value e. step_is_sound state.rows now state.number entry.command entry.moment value sound may e)
 
-replay_is_sound : (start : State) (entries : List Entry) → AreSound start.rows → AreSound (replay start entries).rows
+replay_is_sound : (start : State) (entries : List Entry) → AreSound start.rows → AllByRecursion (λ entry. MayBeGiven entry.command) entries → AreSound (replay start entries).rows
 unfolding replay
-replay_is_sound start [] sound = sound
-replay_is_sound start (entry ∷ entries) sound = replay_is_sound (after_entry start entry) entries (entry_is_sound start entry sound)
+replay_is_sound start [] sound may = sound
+replay_is_sound start (entry ∷ entries) sound may = replay_is_sound (after_entry start entry) entries (entry_is_sound start entry sound may.0) may.1
 
 pub rows_stay_sound : RowsStaySound
 rows_stay_sound = record { one_step = step_is_sound; many_steps = replay_is_sound }

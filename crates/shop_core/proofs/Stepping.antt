@@ -1,15 +1,12 @@
 -- What a step is, by its rules.
-use Rattle.std.proofs.Common.{◌≡◌, ℕ, zero, ℤ, ◌<◌, ◌≤◌, ◌==◌, ◌&&◌, cond, Bool, true, false, not, ltb, List, [], ◌∷◌, length, Some, None, refl, ap, ◌∙◌, subst}
+use Rattle.std.proofs.Common.{◌≡◌, ℕ, ℤ, ◌<◌, ◌≤◌, cond, Bool, true, false, ltb, List, refl, ap, subst, ◌∙◌, to_z, of_z, w64}
+use Rattle.std.specs.Int.RustNames.{FitsSigned}
+use Rattle.std.proofs.lemmas.Int.{to_z-of_z}
 use Rattle.std.proofs.lemmas.Bool.{lt-ltb, le-ltb}
 use Rattle.shop_defs.specs.declared.command.Command.{Command}
-use Rattle.shop_defs.specs.declared.command.Command.TheVariants as commands
-use Rattle.shop_defs.specs.declared.op.RawOp.{RawOp}
 use Rattle.shop_defs.specs.declared.refused.Refused.{Refused}
 use Rattle.shop_defs.specs.declared.row.Row.{Row}
-use Rattle.std.specs.Str.{bytes_eq}
-use Rattle.shop_defs.specs.declared.entity.Entity.TheVariants.{Category}
-use Rattle.shop_defs.specs.Texts.{entity_text}
-use Rattle.shop_core.specs.Steps.{Stepped, accepted, refused, unbuilt, effect, counted, step, most_entries, history_full, inserted, is_upsert, is_bare_upsert}
+use Rattle.shop_core.specs.Steps.{Stepped, accepted, refused, unbuilt, effect, counted, step, most_entries, history_full}
 
 counted_below : (number : ℕ) (rows : List Row) (value : ℤ) → number < most_entries → counted number (accepted rows value) ≡ accepted rows value
 counted_below number rows value less = rw (lt-ltb number most_entries less) refl
@@ -46,25 +43,11 @@ pub accepted_effect : (rows now : List Row) (number : ℕ) (command : Command) (
 unfolding step
 accepted_effect rows now number command moment value e = counted_accepts number (effect rows command moment) now value e
 
--- ---- an insertion is of an id
+-- ---- a moment as the code passes it
 
-and_left : (a b : Bool) → (a && b) ≡ true → a ≡ true
-and_left true b e = refl
-and_left false b e = e
+-- what a command does at the moment that is passed is what it does at the moment
+pub effect_at : (rows now : List Row) (command : Command) (moment value : ℤ) → FitsSigned w64 moment → effect rows command (to_z w64 (of_z w64 moment)) ≡ accepted now value → effect rows command moment ≡ accepted now value
+effect_at rows now command moment value fits e = subst (λ (m : ℤ). effect rows command m ≡ accepted now value) (to_z-of_z w64 moment fits) e
 
-and_right : (a b : Bool) → (a && b) ≡ true → b ≡ true
-and_right true b e = e
-and_right false b e = (cc)
-
-if_some : (b : Bool) (x id : ℕ) → cond b (Some x) None ≡ Some id → (b ≡ true) × (x ≡ id)
-if_some true x id e = (refl, (cc))
-if_some false x id e = (cc)
-
-bare_has_id : (op : RawOp) → is_bare_upsert op ≡ true → not (op.id == 0) ≡ true
-bare_has_id op e = and_right (is_upsert op.kind && bytes_eq op.entity (entity_text Category)) (not (op.id == 0)) (and_left (is_upsert op.kind && bytes_eq op.entity (entity_text Category) && not (op.id == 0)) (op.second == 0) (and_left (is_upsert op.kind && bytes_eq op.entity (entity_text Category) && not (op.id == 0) && (op.second == 0)) (length op.fields == 0) e))
-
-pub inserted_has_id : (command : Command) (id : ℕ) → inserted command ≡ Some id → not (id == 0) ≡ true
-inserted_has_id (commands.Sync zero (op ∷ [])) id e =
-    let both : (is_bare_upsert op ≡ true) × (op.id ≡ id) = if_some (is_bare_upsert op) op.id id e in
-    subst (λ (n : ℕ). not (n == 0) ≡ true) both.1 (bare_has_id op both.0)
-inserted_has_id command id e = (cc)
+pub refused_at : (rows : List Row) (command : Command) (moment : ℤ) (rule : Refused) → FitsSigned w64 moment → effect rows command (to_z w64 (of_z w64 moment)) ≡ refused rule → effect rows command moment ≡ refused rule
+refused_at rows command moment rule fits e = subst (λ (m : ℤ). effect rows command m ≡ refused rule) (to_z-of_z w64 moment fits) e

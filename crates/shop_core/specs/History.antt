@@ -1,10 +1,11 @@
 -- The history of a shop: the commands that were accepted, one after the other.
 use Rattle.std.specs.Prelude.{ℕ, ℤ, ◌≡◌, ◌==◌, ◌+◌, ◌-◌, ◌≤◌, ◌++◌, ◌↔◌, List, [], ◌∷◌, length, filter, take}
-use Rattle.std.specs.List.{fold}
+use Rattle.std.specs.List.{fold, AllByRecursion}
 use Rattle.shop_defs.specs.declared.command.Command.{Command}
 use Rattle.shop_defs.specs.declared.row.Row.{Row}
-use Rattle.shop_rows.specs.Soundness.{AreSound}
-use Rattle.shop_core.specs.Steps.{Stepped, accepted, refused, unbuilt, step, IsAccepted}
+use Rattle.shop_check.specs.Soundness.{AreSound}
+use Rattle.shop_core.specs.Ranges.{IsInRange}
+use Rattle.shop_core.specs.Steps.{Stepped, accepted, refused, unbuilt, step, IsAccepted, IsBuilt}
 
 -- rows, and how many entries were accepted before they stood so
 pub record State : Type 0 where
@@ -73,7 +74,11 @@ pub record PrefixesStay : Type 0 where
 abbrev pub EachIsCounted : Type 0
 EachIsCounted = (start : State) (entries : List Entry) → IsLegal start entries → (replay start entries).number ≡ start.number + length entries
 
+-- the command is one that is built, and its parts are in the ranges of their types
+abbrev pub MayBeGiven : Command → Type 0
+MayBeGiven command = IsBuilt command × IsInRange command
+
 -- a step leaves sound rows sound, and so do any entries
 pub record RowsStaySound : Type 0 where
-  pub one_step : (rows now : List Row) (number : ℕ) (command : Command) (moment value : ℤ) → AreSound rows → step rows number command moment ≡ accepted now value → AreSound now
-  pub many_steps : (start : State) (entries : List Entry) → AreSound start.rows → AreSound (replay start entries).rows
+  pub one_step : (rows now : List Row) (number : ℕ) (command : Command) (moment value : ℤ) → AreSound rows → MayBeGiven command → step rows number command moment ≡ accepted now value → AreSound now
+  pub many_steps : (start : State) (entries : List Entry) → AreSound start.rows → AllByRecursion (λ entry. MayBeGiven entry.command) entries → AreSound (replay start entries).rows

@@ -1,7 +1,9 @@
 pub mod Steps
+pub mod Ranges
 pub mod History
 pub mod Shops
 pub mod Plans
 pub mod Commits
 pub mod Opening
 pub mod Requests
+pub mod Seeing

@@ -3,9 +3,9 @@ use Rattle.std.specs.Prelude.{ℕ, ◌≡◌, ◌≤◌, ◌<◌, ◌^◌, Optio
 use Rattle.shop_defs.specs.declared.key.Key.{Key}
 use Rattle.shop_outside.specs.Causes.{Rose}
 use Rattle.shop_outside.specs.declared.keeper.Kept.{Kept}
-use Rattle.shop_rows.specs.declared.fault.Rule.{Rule}
-use Rattle.shop_rows.specs.Damage.{first_damage, IsFirstDamage}
-use Rattle.shop_rows.specs.Soundness.{kept}
+use Rattle.shop_check.specs.declared.fault.Rule.{Rule}
+use Rattle.shop_check.specs.Damage.{first_damage, IsFirstDamage}
+use Rattle.shop_check.specs.Soundness.{kept}
 use Rattle.shop_core.specs.declared.answers.OpenFault.{OpenFault}
 use Rattle.shop_core.specs.declared.answers.OpenFault.TheVariants as opening
 use Rattle.shop_core.specs.Shops.{ShopView}
@@ -19,7 +19,7 @@ pub record IsLoaded (content : Option Kept) (loaded : Kept) : Type 0 where
 pub record Opens (content : Option Kept) (faults : ℕ) (view : ShopView) : Type 0 where
   pub loaded : Kept
   pub is_loaded : IsLoaded content loaded
-  pub undamaged : first_damage None loaded.rows ≡ None
+  pub undamaged : first_damage loaded.rows ≡ None
   pub rows : kept view.rows ≡ loaded.rows
   pub number : view.number ≡ loaded.number
   pub same_content : view.content ≡ content
@@ -29,7 +29,7 @@ pub record Opens (content : Option Kept) (faults : ℕ) (view : ShopView) : Type
 pub record IsDamaged (content : Option Kept) (key : Key) (rule : Rule) : Type 0 where
   pub loaded : Kept
   pub is_loaded : IsLoaded content loaded
-  pub damage : first_damage None loaded.rows ≡ Some (key, rule)
+  pub damage : first_damage loaded.rows ≡ Some (key, rule)
   pub in_words : IsFirstDamage loaded.rows key rule
 
 -- why no shop is opened: what was loaded is damaged, or the keeper's count of faults rose

@@ -11,7 +11,7 @@ use Rattle.shop_defs.specs.declared.refused.PlanFault.TheVariants as planning
 use Rattle.shop_defs.specs.declared.row.Row.{Row}
 use Rattle.shop_defs.specs.Joined.{Change}
 use Rattle.shop_defs.specs.Rows.{change_rows}
-use Rattle.shop_kept.specs.Spelling.{kept_row, IsKeptRow}
+use Rattle.shop_kept.specs.Spelling.{kept_row, FitsRow, IsKeptRow}
 use Rattle.shop_outside.specs.Keeping.{BodyChanges}
 use Rattle.shop_rows.specs.Changing.{HasAscendingKeys, StandUnderTheirKeys}
 use Rattle.shop_core.specs.Steps.{effect, accepted, refused}
@@ -20,7 +20,11 @@ use Rattle.shop_core.specs.Steps.{effect, accepted, refused}
 abbrev pub encoded : List Change → BodyChanges
 encoded changes = map (λ change. (change.0, option_map kept_row change.1)) changes
 
--- each row of the changes is within the bounds of the kept format
+-- the counts and lengths of the kept format can tell each row of the changes
+abbrev pub FitTheFormat : List Change → Type 0
+FitTheFormat changes = AllByRecursion (λ change. IfSome change.1 FitsRow) changes
+
+-- each row of the changes is one that its bytes give back
 abbrev pub AreKeptRows : List Change → Type 0
 AreKeptRows changes = AllByRecursion (λ change. IfSome change.1 IsKeptRow) changes
 
@@ -28,7 +32,7 @@ AreKeptRows changes = AllByRecursion (λ change. IfSome change.1 IsKeptRow) chan
 pub record AreFit (changes : List Change) : Type 0 where
   pub order : HasAscendingKeys changes
   pub keys : StandUnderTheirKeys changes
-  pub kept : AreKeptRows changes
+  pub kept : FitTheFormat changes
 
 -- Changes and a value that are the command's effect on these rows, or its refusal.
 abbrev pub Plans : List Row → Command → ℤ → Result (Delta × ℤ) PlanFault → Type 0

@@ -1,14 +1,22 @@
--- What a read shows, and how one request is answered.
-use Rattle.std.specs.Prelude.{ℕ, ℤ, ◌≡◌, ◌<◌, false, List, [], ◌∷◌, Option, Some, None, Result, Ok, Err}
+-- What reads show, and how one request is answered.
+use Rattle.std.specs.Prelude.{ℕ, ℤ, ◌≡◌, ◌==◌, ◌&&◌, ◌||◌, Bool, List, [], map, filter, take, Option, Some, None, is_some, if◌then◌else◌, Result, Ok, Err}
+use Rattle.std.specs.Option.{option_map}
+use Rattle.std.specs.Ordering.{is_lt}
 use Rattle.shop_defs.specs.declared.broken.Broken.{Broken}
-use Rattle.shop_defs.specs.declared.broken.Broken.TheVariants.{NoSuchRow}
-use Rattle.shop_defs.specs.declared.entity.Entity.TheVariants.{Category}
+use Rattle.shop_defs.specs.declared.broken.Broken.TheVariants as B
+use Rattle.shop_defs.specs.declared.entity.Entity.{Entity}
+use Rattle.shop_defs.specs.declared.entity.Entity.TheVariants as E
+use Rattle.shop_defs.specs.declared.key.Key.{Key}
 use Rattle.shop_defs.specs.declared.query.RowRead.{RowRead}
 use Rattle.shop_defs.specs.declared.row.Row.{Row}
-use Rattle.shop_defs.specs.declared.value.Value.{Value}
-use Rattle.shop_defs.specs.declared.words.FieldName.TheVariants as names
+use Rattle.shop_defs.specs.declared.table.EntityInfo.{EntityInfo}
+use Rattle.shop_defs.specs.Keys.{key_cmp}
+use Rattle.shop_defs.specs.Operations.{or_else, wrong_second}
 use Rattle.shop_defs.specs.Rows.{row_at}
-use Rattle.shop_defs.specs.Texts.{entity_text, field_text}
+use Rattle.shop_defs.specs.Tables.{entity_named, info_named}
+use Rattle.shop_operations.specs.References.{is_entity, is_live}
+use Rattle.shop_chain.specs.Chains.{chain_of}
+use Rattle.shop_chain.specs.Showing.{shown}
 use Rattle.shop_core.specs.declared.answers.AskFault.{AskFault}
 use Rattle.shop_core.specs.declared.answers.AskFault.TheVariants as asking
 use Rattle.shop_core.specs.declared.answers.CommitFault.TheVariants as faults
@@ -19,52 +27,114 @@ use Rattle.shop_core.specs.declared.answers.Request.TheVariants as requests
 use Rattle.shop_core.specs.declared.answers.RowReply.{RowReply}
 use Rattle.shop_core.specs.Commits.{Commits}
 use Rattle.shop_core.specs.Shops.{ShopView}
-use Rattle.shop_core.specs.Steps.{IsBuilt, category_key}
+use Rattle.shop_core.specs.Steps.{IsBuilt}
 
--- ---- reads
-
--- the read of the live category with that id, as it is: its texts in language 1, and nothing of a parent
-abbrev pub category_read : ℕ → RowRead
-category_read id = record { entity = entity_text Category; id = id; second = 0; version = 0; language = 1; inherit = false }
-
--- the read is one that is built: so far, that of a category
-pub record IsBuiltRead (read : RowRead) : Type 0 where
-  pub has_id : 0 < read.id
-  pub is_read : read ≡ category_read read.id
-
--- the texts that are shown of a category: it has none yet
-abbrev pub category_texts : List (List ℕ × Option Value)
-category_texts = (field_text names.Description, None) ∷ (field_text names.Name, None) ∷ []
-
--- what a read shows: the row with what is shown beside it, or that there is no such row
-abbrev pub reading : List Row → RowRead → Result RowReply Broken
-reading rows read = elim (row_at rows (category_key read.id)) as (λ _. Result RowReply Broken) [
-  | Some row ↦ Ok (record { row = row; shown = category_texts })
-  | None ↦ Err (NoSuchRow (category_key read.id))
-]
-
--- a read answers what it shows, unless memory runs out
-abbrev pub Shows : Result RowReply AskFault → Result RowReply Broken → Type 0
+-- an answer is what it is to be, unless memory runs out
+abbrev pub Shows : {X : Type 0} → Result X AskFault → Result X Broken → Type 0
 Shows (Ok reply) shown = shown ≡ Ok reply
 Shows (Err (asking.Refused broken)) shown = shown ≡ Err broken
 Shows (Err asking.NoMemory) shown = Unit {0}
+
+-- ---- the read of one row
+
+-- the key of a draft: the draft of a version has that version as its id
+abbrev pub draft_key : ℕ → Key
+draft_key version = record { entity = E.Draft; version = 0; id = version; second = 0 }
+
+-- the version is the live one, or a draft has it
+abbrev pub is_known : List Row → ℕ → Bool
+is_known rows version = (version == 0) || is_some (row_at rows (draft_key version))
+
+-- the key of the row that is asked for; so far no shop has drafts, and the live row is shown
+abbrev pub asked_key : Entity → RowRead → Key
+asked_key entity read = record { entity = entity; version = 0; id = read.id; second = read.second }
+
+-- the second part of the key is there exactly where the entity's keys have two
+abbrev pub wrong_form : EntityInfo → RowRead → Option Broken
+wrong_form info read = option_map B.WrongKind (wrong_second info.key read.second)
+
+-- the version that is asked for isn't known
+abbrev pub unknown_version : List Row → RowRead → Option Broken
+unknown_version rows read = if is_known rows read.version then None else Some (B.NoSuchVersion read.version)
+
+-- the row with what is shown beside it, or that there is none with the key
+abbrev pub row_with : List Row → RowRead → Key → Option Row → Result RowReply Broken
+row_with rows read key None = Err (B.NoSuchRow key)
+row_with rows read key (Some row) = Ok (record { row = row; shown = shown (row_at rows) 0 row read.inherit (chain_of (row_at rows) read.language) })
+
+abbrev pub unless_broken : {X : Type 0} → Option Broken → Result X Broken → Result X Broken
+unless_broken None later = later
+unless_broken (Some broken) later = Err broken
+
+abbrev pub read_in : List Row → RowRead → Option EntityInfo → Result RowReply Broken
+read_in rows read None = Err B.UnknownEntity
+read_in rows read (Some info) =
+    unless_broken (or_else (wrong_form info read) (unknown_version rows read)) (row_with rows read (asked_key info.entity read) (row_at rows (asked_key info.entity read)))
+
+-- What a read shows: the row with what is shown beside it, or the first rule that the read breaks. The rules are: the entity has
+-- a name; the key is of its form; the version is known; the row is there.
+unfoldable pub reading : List Row → RowRead → Result RowReply Broken
+reading rows read = read_in rows read (info_named read.entity)
+
+-- ---- a list of rows
+
+-- so many rows are listed at most
+abbrev pub most_listed : ℕ
+most_listed = 100
+
+-- the row is a live one of the entity, above that place
+abbrev pub is_listed : Entity → ℕ → ℕ → Row → Bool
+is_listed entity id second row = is_entity entity row.key.entity && is_live row && is_lt (key_cmp (record { entity = entity; version = 0; id = id; second = second }) row.key)
+
+-- a row by itself
+abbrev pub bare : Row → RowReply
+bare row = record { row = row; shown = [] }
+
+abbrev pub listed_of : List Row → ℕ → ℕ → Option Entity → Result (List Row) Broken
+listed_of rows id second None = Err B.UnknownEntity
+listed_of rows id second (Some entity) = Ok (take most_listed (filter (is_listed entity id second) rows))
+
+-- the first 100 live rows of the entity above a place, in key order, or all of them where they are fewer; or that no entity has
+-- the name
+unfoldable pub listing : List Row → List ℕ → ℕ → ℕ → Result (List Row) Broken
+listing rows name id second = listed_of rows id second (entity_named name)
+
+abbrev pub with_bare : Result (List Row) Broken → Result (List RowReply) Broken
+with_bare (Ok rows) = Ok (map bare rows)
+with_bare (Err broken) = Err broken
 
 -- ---- requests
 
 -- the request is one that is built
 abbrev pub IsBuiltRequest : Request → Type 0
 IsBuiltRequest (requests.Write command) = IsBuilt command
-IsBuiltRequest (requests.Row read) = IsBuiltRead read
+IsBuiltRequest request = Unit {0}
+
+-- the answer to a read that shows nothing
+abbrev pub not_shown : AskFault → Reply
+not_shown (asking.Refused broken) = replies.Refused (record { op = 0; broken = broken })
+not_shown asking.NoMemory = replies.NoMemory
+
+-- a read changes nothing, and is answered by what it shows
+abbrev pub IsRead : ShopView → Reply → Result Reply Broken → ShopView → Type 0
+IsRead old (replies.Refused rule) shown now = (shown ≡ Err rule.broken) × (rule.op ≡ 0) × (now ≡ old)
+IsRead old replies.NoMemory shown now = now ≡ old
+IsRead old reply shown now = (shown ≡ Ok reply) × (now ≡ old)
+
+abbrev pub answered : {X : Type 0} → (X → Reply) → Result X Broken → Result Reply Broken
+answered reply (Ok value) = Ok (reply value)
+answered reply (Err broken) = Err broken
+
+-- a write is answered as its commit is
+abbrev pub IsWritten : ShopView → Reply → ℤ → Request → ShopView → Type 0
+IsWritten old (replies.Done done) moment (requests.Write command) now = Commits old command moment (Ok done) now
+IsWritten old (replies.Refused rule) moment (requests.Write command) now = Commits old command moment (Err (faults.Refused rule)) now
+IsWritten old replies.StoreFailed moment (requests.Write command) now = Commits old command moment (Err faults.StoreFailed) now
+IsWritten old replies.NoMemory moment (requests.Write command) now = Commits old command moment (Err faults.NoMemory) now
+IsWritten old reply moment request now = ⊥
 
 -- A request is answered as its commit or its read is.
 abbrev pub Answers : ShopView → Request → ℤ → Reply → ShopView → Type 0
-Answers old (requests.Write command) moment (replies.Done done) now = Commits old command moment (Ok done) now
-Answers old (requests.Write command) moment (replies.Refused rule) now = Commits old command moment (Err (faults.Refused rule)) now
-Answers old (requests.Write command) moment replies.StoreFailed now = Commits old command moment (Err faults.StoreFailed) now
-Answers old (requests.Write command) moment replies.NoMemory now = Commits old command moment (Err faults.NoMemory) now
-Answers old (requests.Write command) moment (replies.Row reply) now = ⊥
-Answers old (requests.Row read) moment (replies.Row reply) now = (reading old.rows read ≡ Ok reply) × (now ≡ old)
-Answers old (requests.Row read) moment (replies.Refused rule) now = (reading old.rows read ≡ Err rule.broken) × (rule.op ≡ 0) × (now ≡ old)
-Answers old (requests.Row read) moment replies.NoMemory now = now ≡ old
-Answers old (requests.Row read) moment (replies.Done done) now = ⊥
-Answers old (requests.Row read) moment replies.StoreFailed now = ⊥
+Answers old (requests.Write command) moment reply now = IsWritten old reply moment (requests.Write command) now
+Answers old (requests.Row read) moment reply now = IsRead old reply (answered replies.Row (reading old.rows read)) now
+Answers old (requests.RowList entity id second) moment reply now = IsRead old reply (answered replies.RowList (with_bare (listing old.rows entity id second))) now

@@ -2,7 +2,7 @@
 use Rattle.std.specs.Prelude.{ℕ, ◌≡◌, ◌<◌, ◌^◌, List, Option, Some, None}
 use Rattle.shop_defs.specs.declared.row.Row.{Row}
 use Rattle.shop_outside.specs.declared.keeper.Kept.{Kept}
-use Rattle.shop_rows.specs.Soundness.{kept, AreSound}
+use Rattle.shop_check.specs.Soundness.{kept, AreSound}
 use Rattle.shop_core.specs.History.{State}
 
 -- what is seen of a shop: its rows, how many entries were accepted, what its keeper holds, where it tells, and how often

@@ -1,66 +1,44 @@
 -- What a command does to a shop's rows, and when it is refused.
-use Rattle.std.specs.Prelude.{ℕ, zero, ℤ, pos, ◌≡◌, ◌==◌, ◌&&◌, ◌^◌, Bool, true, false, not, nat_lt, length, List, [], ◌∷◌, if◌then◌else◌}
-use Rattle.std.specs.Prelude.{Option, Some, None, is_some, unwrap_or}
-use Rattle.std.specs.Str.{bytes_eq}
+use Rattle.std.specs.Prelude.{ℕ, zero, ℤ, pos, ◌≡◌, ◌<◌, ◌≤◌, ◌^◌, nat_lt, length, List, if◌then◌else◌, Result, Ok, Err}
+use Rattle.std.specs.List.{fold}
 use Rattle.keyed.specs.Keyed.{put}
 use Rattle.shop_defs.specs.declared.broken.Broken.TheVariants.{HistoryFull}
 use Rattle.shop_defs.specs.declared.command.Command.{Command}
 use Rattle.shop_defs.specs.declared.command.Command.TheVariants as commands
-use Rattle.shop_defs.specs.declared.entity.Entity.TheVariants.{Category}
-use Rattle.shop_defs.specs.declared.key.Key.{Key}
-use Rattle.shop_defs.specs.declared.op.OpKind.{OpKind}
-use Rattle.shop_defs.specs.declared.op.OpKind.TheVariants.{Upsert, Delete}
 use Rattle.shop_defs.specs.declared.op.RawOp.{RawOp}
 use Rattle.shop_defs.specs.declared.refused.Refused.{Refused}
 use Rattle.shop_defs.specs.declared.row.Row.{Row}
-use Rattle.shop_defs.specs.declared.value.Value.TheVariants as values
 use Rattle.shop_defs.specs.Keys.{key_cmp}
-use Rattle.shop_defs.specs.Rows.{row_at, row_key}
-use Rattle.shop_defs.specs.Texts.{entity_text}
+use Rattle.shop_defs.specs.Rows.{row_key, IsInKeyOrder}
+use Rattle.shop_operations.specs.Batches.{live_batch}
+use Rattle.shop_operations.specs.References.{live}
+use Rattle.shop_operations.specs.Views.{drafted}
+use Rattle.shop_write.specs.BatchPlans.{HaveIds}
 
--- ---- the command that is built
+-- ---- the commands that are built
 
--- the command that inserts the category with that id, or leaves the one that is there: a batch for the live rows of one
--- operation, which upserts the category and gives no fields
-abbrev pub insertion : ℕ → Command
-insertion id = commands.Sync 0 (record { kind = Upsert; entity = entity_text Category; id = id; second = 0; fields = [] } ∷ [])
+-- a batch that may be asked for: 1 to 1,000 operations, each with an id
+pub record IsBatch (ops : List RawOp) : Type 0 where
+  pub some : 0 < length ops
+  pub few : length ops ≤ 1000
+  pub ids : HaveIds ops
 
-abbrev pub is_upsert : OpKind → Bool
-is_upsert Upsert = true
-is_upsert Delete = false
-
--- the operation upserts a category, with an id and no second part, and gives no fields
-abbrev pub is_bare_upsert : RawOp → Bool
-is_bare_upsert op = is_upsert op.kind && bytes_eq op.entity (entity_text Category) && not (op.id == 0) && (op.second == 0) && (length op.fields == 0)
-
--- the id of the category that a command inserts, where it is such a command
-abbrev pub inserted : Command → Option ℕ
-inserted (commands.Sync zero (op ∷ [])) = if is_bare_upsert op then Some op.id else None
-inserted command = None
-
--- the command is one that is built: so far, the insertion of a category
+-- the command is one that is built: so far, a batch for the live rows
 abbrev pub IsBuilt : Command → Type 0
-IsBuilt command = is_some (inserted command) ≡ true
+IsBuilt (commands.Sync zero ops) = IsBatch ops
+IsBuilt command = ⊥
 
 -- ---- what it does to the rows
 
--- where the live category with that id stands
-abbrev pub category_key : ℕ → Key
-category_key id = record { entity = Category; version = 0; id = id; second = 0 }
+-- the rows of drafts as they are, with these live rows put among them, each at its key
+abbrev pub with_live : List Row → List Row → List Row
+with_live rows now = fold (put key_cmp row_key) (drafted rows) now
 
--- a category with its two defaults: active, and at position 0
-abbrev pub default_category : ℕ → Row
-default_category id = record { key = category_key id; fields = (2, values.Flag true) ∷ (3, values.Int (pos 0)) ∷ []; ops = [] }
-
--- the rows with a category of that id: the one that is there, or one with its defaults
-abbrev pub with_category : List Row → ℕ → List Row
-with_category rows id = if is_some (row_at rows (category_key id)) then rows else put key_cmp row_key rows (default_category id)
-
--- After the insertion of a category its key has a row: the one that was there, or one with the defaults. Every other key
--- has what it had.
-pub record InsertsOne : Type 0 where
-  pub its_row : (rows : List Row) (id : ℕ) → row_at (with_category rows id) (category_key id) ≡ Some (unwrap_or (row_at rows (category_key id)) (default_category id))
-  pub others : (rows : List Row) (id : ℕ) (key : Key) → (key ≡ category_key id → ⊥) → row_at (with_category rows id) key ≡ row_at rows key
+-- What is put so stands so: the live rows are these, the rows of drafts are those that were there, and all are in key order.
+pub record LiveRowsAreReplaced : Type 0 where
+  pub live_rows : (rows now : List Row) → IsInKeyOrder rows → IsInKeyOrder now → live now ≡ now → live (with_live rows now) ≡ now
+  pub others : (rows now : List Row) → IsInKeyOrder rows → IsInKeyOrder now → live now ≡ now → drafted (with_live rows now) ≡ drafted rows
+  pub order : (rows now : List Row) → IsInKeyOrder rows → IsInKeyOrder (with_live rows now)
 
 -- ---- a step
 
@@ -76,9 +54,16 @@ IsAccepted (accepted rows value) = Unit {0}
 IsAccepted (refused rule) = ⊥
 IsAccepted unbuilt = ⊥
 
--- what a command does by all rules but the last: an insertion counts as one operation
+-- a batch is accepted with the live rows that its operations leave, and its value is how many they are; or its first refusal
+-- refuses the whole
+abbrev pub batched : List Row → List RawOp → Result (List Row) Refused → Stepped
+batched rows ops (Ok now) = accepted (with_live rows now) (pos (length ops))
+batched rows ops (Err rule) = refused rule
+
+-- what a command does by all rules but the last
 abbrev pub effect : List Row → Command → ℤ → Stepped
-effect rows command moment = elim (inserted command) [ Some id ↦ accepted (with_category rows id) (pos 1) | None ↦ unbuilt ]
+effect rows (commands.Sync zero ops) moment = batched rows ops (live_batch rows ops)
+effect rows command moment = unbuilt
 
 -- so many entries are accepted at most
 abbrev pub most_entries : ℕ

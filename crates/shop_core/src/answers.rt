@@ -2,9 +2,13 @@
 ghost use Rattle.std.specs.Prelude.{◌≡◌};
 ghost use Rattle.shop_core.specs.declared.answers.AskFault.TheVariants as asking;
 ghost use Rattle.shop_core.specs.declared.answers.CommitFault.TheVariants as committing;
+ghost use Rattle.shop_core.specs.Requests as spec;
 
-use shop_defs::{Broken, Command, Key, List, NoMemory, Refused, Row, RowRead, Txt, Value};
-use shop_rows::Rule;
+use shop_chain::Shown;
+use shop_check::Rule;
+use shop_defs::{
+    Broken, Command, Key, LineFault, List, NoMemory, Refused, Row, RowRead, Txt, Value,
+};
 
 /// A command is done.
 #[derive(Debug, Drop, Clone, Copy, PartialEq, Eq)]
@@ -56,8 +60,18 @@ pub struct RowReply {
     /// The row.
     pub row: Row,
     /// The names of what is shown, ascending by their bytes, each with its value: `None` where there
-    /// is none. Of a category its description and its name.
+    /// is none. It is empty where the row is neither a product's nor a category's, and in a list of
+    /// rows.
     pub shown: List<(Txt, Option<Value>)>,
+}
+
+/// A row, and what is shown beside its own fields, lent by the rows.
+#[derive(Debug, Drop)]
+pub struct RowSeen<'a> {
+    /// The row.
+    pub row: &'a Row,
+    /// What is shown beside it: nothing where it is neither a product's nor a category's.
+    pub shown: Shown<'a>,
 }
 
 /// Why a row is not shown.
@@ -84,6 +98,15 @@ pub enum Request {
     Write(Command),
     /// To show a row.
     Row(RowRead),
+    /// To list the first live rows of an entity above a place.
+    RowList {
+        /// The name that is given for the entity.
+        entity: Txt,
+        /// The id of the place. Here 0 is allowed, which is below all ids.
+        id: u128,
+        /// The second part of the place. 0 is below all of them.
+        second: u128,
+    },
 }
 
 /// What a shop answers.
@@ -93,10 +116,24 @@ pub enum Reply {
     Done(Done),
     /// The row that is shown.
     Row(RowReply),
+    /// The rows that are listed, in the order of their keys.
+    RowList(List<RowReply>),
     /// The request breaks a rule, and nothing is changed.
     Refused(Refused),
+    /// What came isn't a request that is answered. No call of this crate answers it.
+    Line(LineFault),
     /// The keeper failed to keep what the command changes, and nothing is changed.
     StoreFailed,
     /// Memory was refused, and nothing is changed.
     NoMemory,
+}
+
+/// The answer to a read that shows nothing.
+pub(crate) fn not_shown(fault: AskFault) -> Reply
+    ensures { result ≡ spec.not_shown fault }
+{
+    match fault {
+        AskFault::Refused(broken) => Reply::Refused(Refused { op: 0, broken }),
+        AskFault::NoMemory => Reply::NoMemory,
+    }
 }

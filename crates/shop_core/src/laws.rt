@@ -1,11 +1,11 @@
 //! What holds of steps and histories.
 ghost use Rattle.shop_core.specs.Commits.{CommitsAreTheReplay};
-ghost use Rattle.shop_core.specs.Steps.{InsertsOne};
+ghost use Rattle.shop_core.specs.Steps.{LiveRowsAreReplaced};
 ghost use Rattle.shop_core.specs.History.{OneEntryMore, PrefixesStay, EachIsCounted, RowsStaySound};
 
-/// After the insertion of a category its key has a row, and every other key has what it had.
-pub fn law_of_the_insertion()
-    ensures { InsertsOne }
+/// Live rows that are put in place of others stand so, in key order, and the rows of drafts stay.
+pub fn law_of_live_rows()
+    ensures { LiveRowsAreReplaced }
 {}
 
 /// What one entry more at the end of a history does to its replay, to whether it is legal, and to
@@ -24,7 +24,7 @@ pub fn law_of_counting()
     ensures { EachIsCounted }
 {}
 
-/// Steps leave sound rows sound.
+/// Steps leave sound rows sound, of commands whose parts are in the ranges of their types.
 pub fn law_of_sound_rows()
     ensures { RowsStaySound }
 {}

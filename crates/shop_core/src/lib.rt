@@ -5,18 +5,18 @@
 #![tactic(auto)]
 
 mod answers;
-mod forms;
 mod laws;
 mod plan;
 mod read;
+#[cfg(test)]
+mod read_tests;
 mod state;
 #[cfg(test)]
 mod tests;
 
-pub use answers::{AskFault, CommitFault, Done, OpenFault, Reply, Request, RowReply};
-pub use forms::{insert_category, show_category};
+pub use answers::{AskFault, CommitFault, Done, OpenFault, Reply, Request, RowReply, RowSeen};
 pub use laws::{
-    law_of_counting, law_of_one_entry_more, law_of_prefixes, law_of_sound_rows, law_of_the_commits,
-    law_of_the_insertion,
+    law_of_counting, law_of_live_rows, law_of_one_entry_more, law_of_prefixes, law_of_sound_rows,
+    law_of_the_commits,
 };
 pub use state::{ShopState, open_shop};

@@ -1,20 +1,24 @@
 //! The rows, the keeper and the number of accepted entries.
-ghost use Rattle.std.specs.Prelude.{◌≡◌, List, ℕ, Option, Some, IfOk, IfErr, MatchResult};
+ghost use Rattle.std.specs.Prelude.{◌≡◌, List, ℕ, Option, Some, Ok, Err, IfOk, IfErr, MatchResult};
 ghost use Rattle.shop_defs.specs.declared.row.Row.{Row};
 ghost use Rattle.shop_outside.specs.Clocks.{IsMoment};
-ghost use Rattle.shop_rows.specs.Soundness.{kept as kept_rows, AreSound};
+ghost use Rattle.shop_check.specs.Soundness.{kept as kept_rows, AreSound};
 ghost use Rattle.shop_core.specs.Steps.{IsBuilt};
 ghost use Rattle.shop_core.specs.Shops.{ShopView, IsShop};
 ghost use Rattle.shop_core.specs.Commits.{Commits};
 ghost use Rattle.shop_core.specs.Opening.{Opens, HasOpenCause, IsNoDamage};
-ghost use Rattle.shop_core.specs.Requests.{IsBuiltRead, IsBuiltRequest, Shows, reading, Answers};
+ghost use Rattle.shop_core.specs.Requests.{Answers, IsBuiltRequest, Shows, listing, reading, with_bare};
+ghost use Rattle.shop_core.specs.Seeing.{Sees};
 
-use crate::answers::{AskFault, CommitFault, Done, OpenFault, Reply, Request, RowReply};
+use crate::answers::{
+    AskFault, CommitFault, Done, OpenFault, Reply, Request, RowReply, RowSeen, not_shown,
+};
 use crate::plan::{encode_changes, plan};
-use crate::read::show_row;
-use shop_defs::{Broken, Command, PlanFault, Refused, RowRead};
+use crate::read::{copy_list, copy_row, see_list, see_row};
+use shop_check::{CheckFault, check_rows};
+use shop_defs::{Broken, Command, List, PlanFault, Refused, Row, RowRead};
 use shop_outside::{KeepFault, Keeper, Moment};
-use shop_rows::{CheckFault, Rows, check_rows};
+use shop_rows::Rows;
 use std::alloc::Global;
 use std::marker::Model;
 
@@ -131,22 +135,77 @@ impl<P: Keeper + Drop> ShopState<P> {
         }
     }
 
-    /// The row that a read asks for, with what is shown of it.
+    /// The row that a read asks for, with what is shown of it: a product or a category in the read's
+    /// language, that one's parent and the system language, and a product with what it inherits
+    /// where that is asked for. It is a copy, and so costs memory; `see_row` lends.
     ///
     /// # Errors
     ///
-    /// `Refused` with `NoSuchRow` comes exactly where no row has the key, and `NoMemory` where memory
-    /// is refused.
+    /// `Refused` comes exactly where the read breaks a rule, with the first in this order:
+    /// `UnknownEntity` where no entity has the name, `WrongKind` of `second` where a second part is
+    /// given for a key of one part or is missing for one of two, `NoSuchVersion` where the version is
+    /// neither live nor a draft's, and `NoSuchRow` where no row has the key. `NoMemory` comes where
+    /// memory is refused.
     pub fn read_row(&self, alloc: Global, read: &RowRead) -> Result<RowReply, AskFault>
-        requires { IsBuiltRead read.now }
         ensures shows { Shows result (reading self.now.rows read.now) }
         ensures shop { IsShop self.now }
     {
-        show_row(alloc, &self.rows, read)
+        copy_row(alloc, &self.rows, read)
     }
 
-    /// Answers one request: a write as `commit` does, and a read as `read_row` does, which changes
-    /// nothing.
+    /// The same row with what is shown of it, lent as long as the shop stays as it is.
+    ///
+    /// # Errors
+    ///
+    /// Those of `read_row`.
+    pub fn see_row<'a>(&'a self, alloc: Global, read: &RowRead) -> Result<RowSeen<'a>, AskFault>
+        ensures sees { Sees result (reading self.entry.now.rows read.now) }
+        ensures shop { IsShop self.entry.now }
+    {
+        see_row(alloc, &self.rows, read)
+    }
+
+    /// The first 100 live rows of the entity above a place in the order of keys, or all of them where
+    /// they are fewer. Nothing is shown beside their own fields.
+    ///
+    /// # Errors
+    ///
+    /// `Refused` with `UnknownEntity` comes exactly where no entity has the name, and `NoMemory` where
+    /// memory is refused.
+    pub fn read_list(
+        &self,
+        alloc: Global,
+        entity: &[u8],
+        id: u128,
+        second: u128,
+    ) -> Result<List<RowReply>, AskFault>
+        ensures shows { Shows result (with_bare (listing self.now.rows entity.now id second)) }
+        ensures shop { IsShop self.now }
+    {
+        copy_list(alloc, &self.rows, entity, id, second)
+    }
+
+    /// The same rows, lent as long as the shop stays as it is.
+    ///
+    /// # Errors
+    ///
+    /// Those of `read_list`.
+    pub fn see_list<'a>(
+        &'a self,
+        entity: &[u8],
+        id: u128,
+        second: u128,
+    ) -> Result<&'a [Row], Broken>
+        ensures sees { MatchResult result
+            (λ rows. listing self.entry.now.rows entity.now id second ≡ Ok rows.now)
+            (λ broken. listing self.entry.now.rows entity.now id second ≡ Err broken) }
+        ensures shop { IsShop self.entry.now }
+    {
+        see_list(&self.rows, entity, id, second)
+    }
+
+    /// Answers one request: a write as `commit` does, and a read as `read_row` or `read_list` does,
+    /// which changes nothing.
     pub fn answer(&mut self, alloc: Global, request: &Request, moment: Moment) -> Reply
         requires built { IsBuiltRequest request.now }
         requires moment { IsMoment moment }
@@ -162,9 +221,14 @@ impl<P: Keeper + Drop> ShopState<P> {
             },
             Request::Row(read) => match self.read_row(alloc, read) {
                 Ok(reply) => Reply::Row(reply),
-                Err(AskFault::Refused(broken)) => Reply::Refused(Refused { op: 0, broken }),
-                Err(AskFault::NoMemory) => Reply::NoMemory,
+                Err(fault) => not_shown(fault),
             },
+            Request::RowList { entity, id, second } => {
+                match self.read_list(alloc, entity.as_bytes(), *id, *second) {
+                    Ok(rows) => Reply::RowList(rows),
+                    Err(fault) => not_shown(fault),
+                }
+            }
         }
     }
 

@@ -1,36 +1,63 @@
 //! What no clause says: that calls which may want memory succeed, and what whole runs give, in which
 //! calls of the keeper fail.
-ghost use Rattle.std.specs.Prelude.{◌<◌, IfOk};
-ghost use Rattle.shop_core.specs.Requests.{IsBuiltRequest};
+ghost use Rattle.std.specs.Prelude.{◌≢◌, IfOk};
+ghost use Rattle.shop_core.specs.Steps.{IsBuilt};
 
-use crate::{
-    OpenFault, Reply, Request, RowReply, ShopState, insert_category, open_shop, show_category,
-};
-use shop_defs::{Broken, Entity, Key, List, Row, Value};
+use crate::{CommitFault, Done, OpenFault, ShopState, open_shop};
+use shop_check::Rule;
+use shop_defs::{Broken, Command, Entity, Key, List, NoMemory, OpKind, Raw, RawOp, Txt};
 use shop_outside::{Kept, MemKeeper};
-use shop_rows::Rule;
 use std::alloc::Global;
 use std::test::Fail;
 
 /// A category with its defaults, as it is kept.
 const CATEGORY: &[u8] = &[1, 2, 2, 1, 3, 2, 0, 0, 0, 0, 0, 0, 0, 0, 0, 0, 0, 0];
 
-/// A request, for the category with that number.
+/// An operation: its kind, the entity, the number and the second part of the row, and the numbers
+/// that it gives for fields.
+type Given = (
+    OpKind,
+    &'static str,
+    u8,
+    u128,
+    &'static [(&'static str, i64)],
+);
+
+/// Two categories.
+const TWO: &[Given] = &[
+    (OpKind::Upsert, "category", 2, 0, &[("position", 4)]),
+    (OpKind::Upsert, "category", 3, 0, &[]),
+];
+
+/// A category, and one with a position out of range.
+const BAD: &[Given] = &[
+    (OpKind::Upsert, "category", 4, 0, &[]),
+    (OpKind::Upsert, "category", 5, 0, &[("position", -1)]),
+];
+
+const ONE: &[Given] = &[(OpKind::Upsert, "category", 1, 0, &[])];
+
+const GONE: &[Given] = &[(OpKind::Delete, "category", 1, 0, &[])];
+
+/// A batch.
 #[derive(Clone, Copy)]
 enum Ask {
-    Write(u8),
-    Show(u8),
+    One,
+    Two,
+    Bad,
+    Gone,
 }
 
-/// What was answered.
+/// What a commit gave.
 #[derive(Clone, Copy, Debug, PartialEq, Eq)]
 enum Said {
-    Done(u64),
-    Shown,
-    Missing,
+    /// It was done, with that number and that value.
+    Done(u64, i64),
+    /// The operation with that number was refused.
+    Refused(u32),
     Full,
     Failed,
-    Other,
+    NoMemory,
 }
 
 /// How an opening ended.
@@ -42,28 +69,52 @@ enum Ended {
     NoMemory,
 }
 
-fn id(number: u8) -> u128
-    ensures { 0 < result }
-{
-    0x10 + u128::from(number)
+fn given(ask: Ask) -> &'static [Given] {
+    match ask {
+        Ask::One => ONE,
+        Ask::Two => TWO,
+        Ask::Bad => BAD,
+        Ask::Gone => GONE,
+    }
 }
 
 fn place(number: u8) -> Key {
     Key {
         entity: Entity::Category,
         version: 0,
-        id: id(number),
+        id: 0x10 + u128::from(number),
         second: 0,
     }
 }
 
-fn make_request(alloc: Global, ask: Ask) -> Result<Request, Fail>
-    ensures { IfOk result IsBuiltRequest }
+fn make_op(alloc: Global, given: &Given) -> Result<RawOp, NoMemory>
+    ensures { IfOk result (λ op. op.id ≢ 0) }
 {
-    match ask {
-        Ask::Write(number) => Ok(Request::Write(insert_category(alloc, id(number))?)),
-        Ask::Show(number) => Ok(Request::Row(show_category(alloc, id(number))?)),
+    let (kind, entity, number, second, numbers) = given;
+    let mut fields = List::new(alloc);
+    for (name, number) in *numbers {
+        fields.push((Txt::from_str(alloc, name)?, Raw::Int(*number)))?;
     }
+    Ok(RawOp {
+        kind: *kind,
+        entity: Txt::from_str(alloc, entity)?,
+        id: 0x10 + u128::from(*number),
+        second: *second,
+        fields,
+    })
+}
+
+fn make_batch(alloc: Global, given: &[Given]) -> Result<Command, Fail>
+    ensures { IfOk result IsBuilt }
+{
+    let mut ops = List::new(alloc);
+    for one in given {
+        ops.push(make_op(alloc, one)?)?;
+    }
+    if ops.is_empty() || ops.len() > 1000 {
+        return Err(Fail::from("no batch"));
+    }
+    Ok(Command::Sync { version: 0, ops })
 }
 
 /// A keeper that holds these bytes for the first category, or nothing where there are none.
@@ -84,36 +135,15 @@ fn keeper(
     Ok(MemKeeper::new(alloc, Kept { rows, number }, loads, applies))
 }
 
-fn has_category_texts(reply: &RowReply) -> bool {
-    match reply.shown.as_slice() {
-        [(first, None), (second, None)] => {
-            first.as_str() == "description" && second.as_str() == "name"
-        }
-        _ => false,
-    }
-}
-
-fn has_defaults(row: &Row) -> bool {
-    let active = row
-        .field(2)
-        .is_some_and(|value| value.is_same(&Value::Flag(true)));
-    let position = row
-        .field(3)
-        .is_some_and(|value| value.is_same(&Value::Int(0)));
-    active && position && row.fields.len() == 2
-}
-
-fn summary_of(reply: &Reply) -> Said {
-    match reply {
-        Reply::Done(done) if done.value == 1 => Said::Done(done.front),
-        Reply::Row(reply) if has_defaults(&reply.row) && has_category_texts(reply) => Said::Shown,
-        Reply::Refused(refused) => match refused.broken {
-            Broken::NoSuchRow { .. } => Said::Missing,
+fn summary_of(answer: Result<Done, CommitFault>) -> Said {
+    match answer {
+        Ok(done) => Said::Done(done.front, done.value),
+        Err(CommitFault::Refused(refused)) => match refused.broken {
             Broken::HistoryFull => Said::Full,
-            _ => Said::Other,
+            _ => Said::Refused(refused.op),
         },
-        Reply::StoreFailed => Said::Failed,
-        _ => Said::Other,
+        Err(CommitFault::StoreFailed) => Said::Failed,
+        Err(CommitFault::NoMemory) => Said::NoMemory,
     }
 }
 
@@ -124,9 +154,8 @@ fn answers(
 ) -> Result<Vec<Said>, Fail> {
     let mut all = Vec::new(alloc);
     for ask in asks {
-        let request = make_request(alloc, *ask)?;
-        let reply = shop.answer(alloc, &request, 0);
-        all.push(summary_of(&reply))?;
+        let command = make_batch(alloc, given(*ask))?;
+        all.push(summary_of(shop.commit(alloc, &command, 0)))?;
     }
     Ok(all)
 }
@@ -141,61 +170,54 @@ fn has_categories(shop: &ShopState<MemKeeper>, numbers: &[u8]) -> bool {
 
 #[test]
 fn runs(rt: HostRuntime) -> Result<(), Fail> {
-    use Ask::{Show, Write};
-    use Said::{Done, Failed, Full, Missing, Shown};
+    use Ask::{Bad, Gone, One, Two};
+    use Said::{Done, Failed, Full, Refused};
 
     let alloc = rt.alloc();
-    let day = [Write(1), Show(1), Write(2), Write(1), Show(2), Show(3)].as_slice();
+    let day = [One, Two, Bad, Gone].as_slice();
     let last = 1 << 62;
     for (start, failing, asks, want, end, held) in [
         (
             0,
-            [3].as_slice(),
-            [Write(1), Write(2), Write(3), Write(3)].as_slice(),
-            [Done(1), Done(2), Failed, Done(3)].as_slice(),
-            3,
-            [1, 2, 3].as_slice(),
-        ),
-        (
-            0,
-            &[],
+            [].as_slice(),
             day,
-            &[Done(1), Shown, Done(2), Done(3), Shown, Missing],
+            [Done(1, 1), Done(2, 2), Refused(2), Done(3, 1)].as_slice(),
             3,
-            &[1, 2],
+            [2, 3].as_slice(),
+        ),
+        // A batch that is refused isn't kept, so the keeper's third call is the last.
+        (
+            7,
+            &[3],
+            day,
+            &[Done(8, 1), Done(9, 2), Refused(2), Failed],
+            9,
+            &[1, 2, 3],
         ),
         (
             0,
             &[1],
             day,
-            &[Failed, Missing, Done(1), Done(2), Shown, Missing],
-            2,
-            &[1, 2],
+            &[Failed, Done(1, 2), Refused(2), Refused(1)],
+            1,
+            &[2, 3],
         ),
         (
             0,
             &[2],
             day,
-            &[Done(1), Shown, Failed, Done(2), Missing, Missing],
+            &[Done(1, 1), Failed, Refused(2), Done(2, 1)],
             2,
-            &[1],
+            &[],
         ),
-        (
-            7,
-            &[3],
-            day,
-            &[Done(8), Shown, Done(9), Failed, Shown, Missing],
-            9,
-            &[1, 2],
-        ),
-        (last, &[], &[Write(1), Show(1)], &[Full, Missing], last, &[]),
+        (last, &[], &[Bad, One], &[Refused(2), Full], last, &[]),
         (
             last - 1,
             &[],
-            &[Write(1), Write(1)],
-            &[Done(last), Full],
+            &[Two, Two],
+            &[Done(last, 2), Full],
             last,
-            &[1],
+            &[2, 3],
         ),
     ] {
         let mut shop = open_shop(alloc, keeper(alloc, start, &[], &[], failing)?)
@@ -258,14 +280,12 @@ fn kept_bytes(rt: HostRuntime) -> Result<(), Fail> {
     let mut shop = open_shop(alloc, keeper(alloc, 0, &[], &[], &[])?)
         .ok()
         .ok_or("it opens")?;
-    let command = insert_category(alloc, id(0))?;
+    let command = make_batch(alloc, ONE)?;
     assert!(rt; shop.commit(alloc, &command, 0).is_ok());
-    let read = show_category(alloc, id(0))?;
-    assert!(rt; shop.read_row(alloc, &read).is_ok());
     let keeper = shop.close();
     assert_eq!(rt; keeper.rows().len(), 1);
     for (key, held) in keeper.rows() {
-        assert!(rt; *key == place(0));
+        assert!(rt; *key == place(1));
         assert_eq!(rt; held.as_slice(), CATEGORY);
     }
     Ok(())
