@@ -1,0 +1,41 @@
+-- What replies say, as JSON values, and with which status (RFC 9110, section 15).
+use Rattle.std.specs.Prelude.{ℕ, List, [], ◌∷◌, map, codes, Option, Some, None}
+use Rattle.serde_json.specs.Data.{Data, string}
+use Rattle.serde_json.specs.Written.{compact_text}
+use Rattle.shop_core.specs.declared.answers.Reply.{Reply}
+use Rattle.shop_core.specs.declared.answers.Reply.TheVariants as R
+use Rattle.shop_chain.specs.Showing.{ShownList}
+use Rattle.reply_json.specs.Faults.{fault_data, fault_status}
+use Rattle.reply_json.specs.Objects.{object_of}
+use Rattle.reply_json.specs.Refusals.{refusal_data, refusal_status}
+use Rattle.reply_json.specs.RowReplies.{done_data, row_data, rows_data}
+
+-- of a row of which nothing is shown beside its fields, no member says so
+abbrev pub if_any : ShownList → Option ShownList
+if_any [] = None
+if_any (shown ∷ rest) = Some (shown ∷ rest)
+
+abbrev pub error_data : List ℕ → Data
+error_data name = object_of ((codes "error", string name) ∷ [])
+
+abbrev pub reply_data : Reply → Data
+reply_data (R.Done done) = done_data done.front done.value
+reply_data (R.Row reply) = row_data reply.row (if_any reply.shown)
+reply_data (R.RowList replies) = rows_data (map (λ reply. reply.row) replies)
+reply_data (R.Refused refused) = refusal_data refused
+reply_data (R.Line fault) = fault_data fault
+reply_data R.StoreFailed = error_data (codes "store_failed")
+reply_data R.NoMemory = error_data (codes "no_memory")
+
+abbrev pub reply_status : Reply → ℕ
+reply_status (R.Done done) = 200
+reply_status (R.Row reply) = 200
+reply_status (R.RowList replies) = 200
+reply_status (R.Refused refused) = refusal_status refused.broken
+reply_status (R.Line fault) = fault_status fault
+reply_status R.StoreFailed = 503
+reply_status R.NoMemory = 507
+
+-- the body of a reply
+unfoldable pub reply_body : Reply → List ℕ
+reply_body reply = compact_text (reply_data reply)
