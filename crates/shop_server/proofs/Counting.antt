@@ -1,11 +1,8 @@
 -- Counts of faults over several requests, and the moments that a clock tells.
-use Rattle.std.proofs.Common.{◌≡◌, ℕ, zero, suc, ℤ, ◌+◌, ◌-◌, ◌≤◌, ◌^◌, min, List, [], ◌∷◌, length, map, Option, Some, None, refl, sym, ap, ◌∙◌, subst, arith}
-use Rattle.std.specs.List.{AllByRecursion}
-use Rattle.shop_outside.specs.Causes.{Rose}
-use Rattle.shop_outside.specs.Clocks.{IsMoment, Ticks, Tells}
-use Rattle.shop_server.specs.declared.form.Form.{Form}
-use Rattle.shop_server.specs.declared.form.Form.TheVariants.{Insert, Show}
-use Rattle.shop_server.specs.Answering.{Way, worked_out, short, failed, Served, failures, failed_once, Counts, RoseBy, HaveMoments, ComeAfter, first_moments}
+use Rattle.std.proofs.Common.{◌≡◌, ℕ, zero, suc, ℤ, ◌+◌, List, [], ◌∷◌, length, map, Option, Some, None, refl, ap, ◌∙◌, arith}
+use Rattle.shop_outside.specs.Clocks.{Ticks}
+use Rattle.shop_core.specs.declared.answers.Request.TheVariants as requests
+use Rattle.shop_server.specs.Answering.{Form, asks, turned_away, Way, worked_out, short, failed, Served, failures, failed_once, Counts, RoseBy, HaveMoments, ComeAfter, first_moments}
 use Rattle.shop_server.specs.Session.{InRange}
 
 pub rose_none : (a b : ℕ) → b ≡ a → RoseBy 0 a b
@@ -16,8 +13,10 @@ rose_more n m a b c p q = omega arith
 
 rose_once : (form : Form) (way : Way) (a b : ℕ) → Counts a b form way → RoseBy (failed_once way) a b
 rose_once form worked_out a b c = omega arith
-rose_once (Insert id) short a b c = omega arith
-rose_once (Show id) short a b c = omega arith
+rose_once (asks (requests.Write command)) short a b c = omega arith
+rose_once (asks (requests.Row read)) short a b c = omega arith
+rose_once (asks (requests.RowList entity id second)) short a b c = omega arith
+rose_once (turned_away fault allow) short a b c = omega arith
 rose_once form failed a b c = c.1
 
 pub rose_by_one : (one : Served) (served : List Served) (a b c : ℕ) → Counts a b one.form one.way → RoseBy (failures served) b c → RoseBy (failures (one ∷ served)) a c

@@ -1,12 +1,11 @@
 -- The answers of a connection are the fold of the replies over the rows.
-use Rattle.std.proofs.Common.{◌≡◌, ℕ, ℤ, ◌+◌, ◌≤◌, List, [], ◌∷◌, ◌++◌, length, is_some, refl, sym, ap, ◌∙◌, subst, arith}
+use Rattle.std.proofs.Common.{◌≡◌, ℕ, ℤ, ◌+◌, ◌≤◌, List, [], ◌∷◌, ◌++◌, length, is_some, sym, ap, ◌∙◌, subst, arith}
 use Rattle.shop_http.specs.Requests.{Asked}
 use Rattle.shop_core.specs.Steps.{Stepped, accepted, refused, unbuilt}
 use Rattle.shop_core.specs.History.{State, after_step}
-use Rattle.shop_server.specs.declared.form.Form.{Form}
-use Rattle.shop_server.specs.declared.form.Form.TheVariants.{Insert, Show}
-use Rattle.shop_server.specs.Answering.{DeskView, stand_of, Gives, AnswersBy, Served, AreServed, HaveServed, Way, worked_out, short, failed, replies, after_served, left_by, after_all, served_text, write_at, RepliesAreAFold, FewAreAccepted}
-use Rattle.shop_server.specs.Session.{Answers, AtMoment, InRange}
+use Rattle.shop_core.specs.declared.answers.Request.TheVariants as requests
+use Rattle.shop_server.specs.Answering.{Form, asks, turned_away, DeskView, stand_of, AnswersBy, Served, AreServed, HaveServed, Way, worked_out, short, failed, responses, left_by, after_all, served_text, write_at, RepliesAreAFold, FewAreAccepted}
+use Rattle.shop_server.specs.Session.{InRange}
 use Rattle.shop_outside.specs.Clocks.{Ticks}
 use Rattle.shop_server.proofs.Counting.{rose_none, rose_by_one, no_moments, one_moment, none_come, one_comes}
 
@@ -25,7 +24,7 @@ one_served : (old mid new : DeskView) (ask : Asked) (asked : List Asked) (first 
     → InRange old.coming one.moment → Ticks old.coming mid.coming one.moment → HaveServed served mid asked rest new → out ≡ first ++ rest → HaveServed (one ∷ served) old (ask ∷ asked) out new
 one_served old mid new ask asked first rest out one served g range ticks r e = record {
   each = (g.form, g.last, g.may, subst (λ s. AreServed s asked served) g.left r.each);
-  text = e ∙ ap (λ l. l ++ rest) g.text ∙ ap (λ l. served_text (stand_of old) one ++ l) (r.text ∙ ap (λ s. replies s served) g.left);
+  text = e ∙ ap (λ l. l ++ rest) g.text ∙ ap (λ l. served_text (stand_of old) one ++ l) (r.text ∙ ap (λ s. responses s served) g.left);
   left = r.left ∙ ap (λ s. after_all s served) g.left;
   counts = rose_by_one one served old.answerer.faults mid.answerer.faults new.answerer.faults g.counts r.counts;
   moments = one_moment old.coming mid.coming one served range ticks r.moments;
@@ -47,8 +46,10 @@ step_counts state (refused rule) = omega arith
 step_counts state unbuilt = omega arith
 
 left_counts : (way : Way) (state : State) (form : Form) (moment : ℤ) → (left_by way state form moment).number ≤ state.number + 1
-left_counts worked_out state (Insert id) moment = step_counts state (write_at state id moment)
-left_counts worked_out state (Show id) moment = omega arith
+left_counts worked_out state (asks (requests.Write command)) moment = step_counts state (write_at state command moment)
+left_counts worked_out state (asks (requests.Row read)) moment = omega arith
+left_counts worked_out state (asks (requests.RowList entity id second)) moment = omega arith
+left_counts worked_out state (turned_away fault allow) moment = omega arith
 left_counts short state form moment = omega arith
 left_counts failed state form moment = omega arith
 

@@ -5,7 +5,7 @@ pub mod Settled
 pub mod OneWord
 pub mod Counting
 pub mod Writes
+pub mod Forms
 pub mod Folds
 pub mod Outputs
 pub mod Runs
-pub mod FormWords

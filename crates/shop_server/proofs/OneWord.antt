@@ -1,11 +1,10 @@
 -- The one word of a command line.
-use Rattle.std.proofs.Common.{◌≡◌, ℕ, Bool, true, false, List, [], ◌∷◌, codes, refl, sym, ap, ◌∙◌, Option, Some, None}
+use Rattle.std.proofs.Common.{◌≡◌, ℕ, Bool, true, false, List, [], ◌∷◌, codes, refl, ap, Some, None}
 use Rattle.std.specs.Prelude.{if◌then◌else◌}
 use Rattle.std.proofs.lemmas.Slice.Eq.{bytes_eq-Decides}
 use Rattle.std.specs.Str.{bytes_eq}
-use Rattle.shop_server.specs.declared.words.Verb.{Verb}
 use Rattle.shop_server.specs.declared.words.Verb.TheVariants.{Run, Check}
-use Rattle.shop_server.specs.Words.{verb_in, verb_named}
+use Rattle.shop_server.specs.Words.{verb_in}
 
 second : (b : Bool) → (if b then Some Check else None) ≡ Some Check → b ≡ true
 second true e = refl

@@ -1,51 +1,27 @@
 -- What is written is a front of the output for the whole input.
-use Rattle.std.proofs.Common.{◌≡◌, ℕ, zero, suc, ℤ, pos, ◌+◌, ◌≤◌, ◌⊎◌, List, [], ◌∷◌, ◌++◌, drop, refl, sym, ap, ◌∙◌, subst, inl, inr, append_assoc, append-nil, Option, Some, None, arith, rules}
+use Rattle.std.proofs.Common.{◌≡◌, ℕ, ℤ, pos, ◌+◌, List, [], ◌∷◌, ◌++◌, refl, sym, ap, ◌∙◌, subst, inl, inr, append_assoc, append-nil, Option, Some, None, arith, rules}
 use Rattle.std.specs.Io.KnownBytes.{Consumes, Appends, IsAtEnd}
-use Rattle.shop_outside.specs.Clocks.{IsMoment, Ticks}
+use Rattle.shop_outside.specs.Clocks.{Ticks}
 use Rattle.shop_core.specs.History.{State}
-use Rattle.shop_core.specs.Shops.{ShopView}
-use Rattle.shop_server.specs.declared.form.Refusal.{Refusal}
-use Rattle.shop_server.specs.declared.form.Form.{Form}
-use Rattle.shop_http.specs.Requests.{Request, Asked, Cuts, Front, whole, Ending, open_at, refused, closing, spent, requests, IsCut}
+use Rattle.shop_server.specs.declared.refusal.Refusal.{Refusal}
+use Rattle.shop_http.specs.Requests.{Asked, Cuts, Ending, open_at, refused, closing, spent, requests}
 use Rattle.shop_server.specs.Cutting.{cut}
 use Rattle.shop_http.specs.Laws.{longest}
 use Rattle.shop_server.specs.Lawful.{the_cut}
 use Rattle.shop_server.specs.declared.session.Ended.{Ended}
 use Rattle.shop_server.specs.declared.session.Ended.TheVariants.{Closed, HeadRefused, Spent, Truncated, ReadFault, WriteFault, NoMemory}
 use Rattle.shop_server.specs.Session.{AtMoment, InRange, Session, Answers, IsFront, most_requests}
-use Rattle.shop_server.specs.Answering.{DeskView, stand_of, Gives, AnswersBy, Served, worked_out, IsOf, IsServed, AreServed, served_text, after_served}
+use Rattle.shop_server.specs.Answering.{DeskView, stand_of, Gives, AnswersBy, Served, Form, form_of, worked_out, IsOf, AreServed, served_text, after_served}
 use Rattle.shop_server.proofs.Folds.{answers_fold}
-use Rattle.shop_server.specs.Run.{number_of, number_at, fatal_text, fatal_end, IsOutput, IsCutShort, HasWritten}
-use Rattle.shop_server.specs.Outcome.{IsSettled, MayEnd}
-use Rattle.shop_server.proofs.Progress.{none_left, at_part, at_bad, at_last, at_whole, answers_push}
-use Rattle.shop_server.proofs.Settled.{outcome, way, goes, stops, less, never, front_trans, requests_stay, requests_grow}
+use Rattle.shop_server.specs.Run.{number_of, fatal_text, fatal_end, IsOutput, IsCutShort, HasWritten}
+use Rattle.shop_server.specs.Outcome.{IsSettled}
+use Rattle.shop_server.proofs.Progress.{answers_push}
+use Rattle.shop_server.proofs.Settled.{front_trans, requests_stay, requests_grow}
 
 -- ---- fronts of lists
 
 pub front_of_all : {X : Type 0} (xs : List X) → IsFront xs xs
 front_of_all xs = ([], sym (append-nil xs))
-
--- ---- the requests of a list
-
-module _ {F : Type 0} (cut : List ℕ → Front F) (longest : ℕ) (law : IsCut cut longest) where
-  -- each request of the list is one that the cut gave
-  module _ (P : Request → Type 0) (each : (bytes : List ℕ) (r : Request) (used : ℕ) → cut bytes ≡ whole r used → P r) where
-    abbrev pub Each : List Asked → Type 0
-    Each [] = Unit {0}
-    Each (ask ∷ asked) = P ask.request × Each asked
-
-    pub each_asked : (n : ℕ) (bytes : List ℕ) → Each (requests cut n bytes).asked
-    each_asked zero bytes = subst Each (ap (λ x. x.asked) (sym (none_left cut bytes))) tt
-    each_asked (suc n) bytes = elim (way cut longest law bytes) as (λ _. Each (requests cut (suc n) bytes).asked) [
-      | goes r used e c ↦ subst Each (ap (λ x. x.asked) (sym (at_whole cut n bytes r used e c))) (each bytes r used e, each_asked n (drop used bytes))
-      | stops r used e c ↦ subst Each (ap (λ x. x.asked) (sym (at_last cut n bytes r used e c))) (each bytes r used e, tt)
-      | less e ↦ subst Each (ap (λ x. x.asked) (sym (at_part cut n bytes e))) tt
-      | never f e ↦ subst Each (ap (λ x. x.asked) (sym (at_bad cut n bytes f e))) tt
-    ]
-
-    pub each_behind : (front rest all : List Asked) → all ≡ front ++ rest → Each all → Each rest
-    each_behind [] rest all e h = subst Each e h
-    each_behind (ask ∷ front) rest all e h = each_behind front rest (front ++ rest) refl (subst Each e h).1
 
 -- ---- answers
 
@@ -98,16 +74,16 @@ answers_so desk form ask is = record {
   told = refl;
 }
 
--- requests of the two forms always have answers
-pub answers_exist : (each : (bytes : List ℕ) (r : Request) (used : ℕ) → cut bytes ≡ whole r used → IsServed r) (old : DeskView) (asked : List Asked) → Each cut longest the_cut IsServed each asked
-    → (out : List ℕ) × (new : DeskView) × Answers (AtMoment Gives) old asked out new
-answers_exist each old [] h = ([], old, (refl, refl))
-answers_exist each old (ask ∷ asked) h =
-    let one : Served = worked old h.0.0 ask in
+-- requests always have answers
+pub answers_exist : (old : DeskView) (asked : List Asked) → (out : List ℕ) × (new : DeskView) × Answers (AtMoment Gives) old asked out new
+answers_exist old [] = ([], old, (refl, refl))
+answers_exist old (ask ∷ asked) =
+    let form : Form = form_of ask.request in
+    let one : Served = worked old form ask in
     let next : DeskView = left_behind old one in
     let response : List ℕ = served_text (stand_of old) one in
-    let rest = answers_exist each next asked h.1 in
-    let here : AtMoment Gives old ask response next = (next_moment old.coming, moment_in_range old.coming, moment_ticks old.coming, (one, refl, answers_so old h.0.0 ask h.0.1)) in
+    let rest = answers_exist next asked in
+    let here : AtMoment Gives old ask response next = (next_moment old.coming, moment_in_range old.coming, moment_ticks old.coming, (one, refl, answers_so old form ask refl)) in
     (response ++ rest.0, rest.1, (next, response, rest.0, here, rest.2, refl))
 
 -- ---- what is written
@@ -120,7 +96,7 @@ told_rest : (all got : List ℕ) (left : Option (List ℕ)) → Consumes (Some a
 told_rest all got None c = absurd c
 told_rest all got (Some rest) c = (rest, c, λ e. c ∙ ap (λ r. got ++ r) e ∙ append-nil got)
 
-module _ (each : (bytes : List ℕ) (r : Request) (used : ℕ) → cut bytes ≡ whole r used → IsServed r) (first last : DeskView) (all before : List ℕ) (left' written' : Option (List ℕ)) where
+module _ (first last : DeskView) (all before : List ℕ) (left' written' : Option (List ℕ)) where
   abbrev Ran : Ended → Type 0
   Ran ended = Session (AtMoment Gives) fatal_text cut most_requests first last (Some all) left' (Some before) written' ended
 
@@ -143,7 +119,7 @@ module _ (each : (bytes : List ℕ) (r : Request) (used : ℕ) → cut bytes ≡
   front_output : (number : ℕ) (full out : List ℕ) (asked : List Asked) → Appends (Some before) written' out → Answers (AtMoment Gives) first asked full last
       → IsFront asked (cuts_of all).asked → IsFront out full → IsCutShort number → HasWritten (stand_of first) all before written' number
   front_output number full out asked a h front f short =
-      let others = answers_exist each last front.0 (each_behind cut longest the_cut IsServed each asked front.0 (cuts_of all).asked front.1 (each_asked cut longest the_cut IsServed each most_requests all)) in
+      let others = answers_exist last front.0 in
       let body : List ℕ = full ++ others.0 in
       let answers : Answers (AtMoment Gives) first (cuts_of all).asked body others.1 =
       subst (λ l. Answers (AtMoment Gives) first l body others.1) (sym front.1) (answers_join (AtMoment Gives) first last others.1 asked front.0 full others.0 h others.2) in
@@ -212,12 +188,12 @@ module _ (each : (bytes : List ℕ) (r : Request) (used : ℕ) → cut bytes ≡
       front_output 9 s.out s.out s.asked s.wrote s.how.1 (subst (λ l. IsFront l (cuts_of all).asked) (sym s.how.0) (read_front NoMemory s)) (front_of_all s.out) (inr (inr (inr refl)))
 
 -- where nothing was written, that is a front of the output
-pub unwritten : (each : (bytes : List ℕ) (r : Request) (used : ℕ) → cut bytes ≡ whole r used → IsServed r) (state : State) (all before : List ℕ) (written : Option (List ℕ)) (number : ℕ)
+pub unwritten : (state : State) (all before : List ℕ) (written : Option (List ℕ)) (number : ℕ)
     → written ≡ Some before → IsCutShort number → HasWritten state all before written number
-unwritten each state all before written number e short =
+unwritten state all before written number e short =
     let desk : DeskView = record { answerer = record { rows = state.rows; number = state.number; content = None; faults = 0 }; coming = None } in
     let cuts : Cuts Refusal = requests cut most_requests all in
-    let answers = answers_exist each desk cuts.asked (each_asked cut longest the_cut IsServed each most_requests all) in
+    let answers = answers_exist desk cuts.asked in
     let output : List ℕ = answers.0 ++ fatal_end cuts.ending in
     let fold = answers_fold desk answers.1 cuts.asked answers.0 answers.2 in
     (output, [], (fold.0, fold.1.each, ap (λ l. l ++ fatal_end cuts.ending) fold.1.text), e ∙ ap Some (sym (append-nil before)), (output, refl), inl short)

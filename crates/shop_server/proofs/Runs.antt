@@ -5,27 +5,28 @@ use Rattle.shop_defs.specs.declared.row.Row.{Row}
 use Rattle.shop_outside.specs.declared.keeper.Kept.{Kept}
 use Rattle.shop_defs.specs.declared.key.Key.{Key}
 use Rattle.shop_kept.specs.Spelling.{kept_row}
-use Rattle.shop_rows.specs.declared.fault.Rule.{Rule}
-use Rattle.shop_rows.specs.Damage.{Damage, first_damage}
-use Rattle.shop_rows.specs.Soundness.{Entry, kept, AreSound}
-use Rattle.shop_rows.proofs.Entries.{kept_once, undamaged}
+use Rattle.shop_check.specs.declared.fault.Rule.{Rule}
+use Rattle.shop_check.specs.Damage.{Damage, first_damage}
+use Rattle.shop_check.specs.Soundness.{Entry, kept}
+use Rattle.shop_check.proofs.Entries.{kept_once}
+use Rattle.shop_check.proofs.Laws.{undamaged}
 use Rattle.shop_core.specs.declared.answers.OpenFault.{OpenFault}
 use Rattle.shop_core.specs.declared.answers.OpenFault.TheVariants as opening
 use Rattle.shop_core.specs.History.{State}
 use Rattle.shop_core.specs.Opening.{Opens, HasOpenCause, IsLoaded, IsDamaged}
 use Rattle.shop_outside.specs.Causes.{Rose}
 use Rattle.shop_core.specs.Shops.{ShopView, IsShop, state_of}
-use Rattle.shop_http.specs.Requests.{Request, Ending, whole, requests}
+use Rattle.shop_http.specs.Requests.{Ending, requests}
 use Rattle.shop_http.specs.Laws.{longest}
-use Rattle.shop_server.specs.declared.form.Refusal.{Refusal}
+use Rattle.shop_server.specs.declared.refusal.Refusal.{Refusal}
 use Rattle.shop_server.specs.declared.session.Ended.{Ended}
 use Rattle.shop_server.specs.declared.session.Ended.TheVariants.{Closed, HeadRefused, Spent, Truncated, ReadFault, WriteFault, NoMemory}
-use Rattle.shop_server.specs.Answering.{DeskView, stand_of, Gives, IsServed}
+use Rattle.shop_server.specs.Answering.{DeskView, stand_of, Gives}
 use Rattle.shop_server.specs.Cutting.{cut}
 use Rattle.shop_server.specs.Lawful.{the_cut}
 use Rattle.shop_server.specs.Outcome.{MayEnd}
 use Rattle.shop_server.specs.Reports.{Report, report_of, reported, count_lines, damage_line}
-use Rattle.shop_server.specs.Run.{Outside, number_of, number_at, number_unopened, IsCutShort, HasNotOpened, HasServed, HasRun, HasConnected, IsWhole, HasChecked, HasReported, HasReportedText, ReportsFault, IsUnreported, Keeps, fatal_text, HasWritten}
+use Rattle.shop_server.specs.Run.{Outside, number_of, number_at, number_unopened, IsCutShort, HasRun, HasConnected, IsWhole, HasChecked, HasReported, HasReportedText, ReportsFault, IsUnreported, Keeps, fatal_text, HasWritten}
 use Rattle.shop_server.specs.Session.{Answers, AtMoment, Session, most_requests}
 use Rattle.shop_server.proofs.Outputs.{written_by, unwritten}
 use Rattle.shop_server.proofs.Settled.{outcome}
@@ -52,14 +53,14 @@ sound_undamaged : (content : Option Kept) (start : State) (key : Key) (rule : Ru
 sound_undamaged content start key rule k d =
     let held : Kept = record { rows = kept start.rows; number = start.number } in
     let same : d.loaded ≡ held = loaded_is content d.loaded held d.is_loaded k.holds in
-    let none : first_damage None d.loaded.rows ≡ None = ap (λ (l : Kept). first_damage None l.rows) same ∙ undamaged start.rows k.sound in
+    let none : first_damage d.loaded.rows ≡ None = ap (λ (l : Kept). first_damage l.rows) same ∙ undamaged start.rows k.sound in
     let e = sym none ∙ d.damage in cc
 
 -- what is damaged is never opened
-never_opened : (content : Option Kept) (faults : ℕ) (shop : ShopView) (held : Kept) (damage : Damage) → Opens content faults shop → content ≡ Some held → first_damage None held.rows ≡ Some damage → ⊥
+never_opened : (content : Option Kept) (faults : ℕ) (shop : ShopView) (held : Kept) (damage : Damage) → Opens content faults shop → content ≡ Some held → first_damage held.rows ≡ Some damage → ⊥
 never_opened content faults shop held damage o e d =
     let same = loaded_is content o.loaded held o.is_loaded e in
-    let f = sym o.undamaged ∙ ap (λ (l : Kept). first_damage None l.rows) same ∙ d in cc
+    let f = sym o.undamaged ∙ ap (λ (l : Kept). first_damage l.rows) same ∙ d in cc
 
 -- ---- the status of a run
 
@@ -90,28 +91,27 @@ unopened_status opening.StoreFault = inl (inr (inr (inl refl)))
 unopened_status opening.NoMemory = inl (inr (inr (inr refl)))
 unopened_status (opening.Damaged key rule) = inr refl
 
-pub run_damaged : (before now : Outside) (number : ℕ) (held : Kept) (damage : Damage) → HasRun before now number → before.content ≡ Some held → first_damage None held.rows ≡ Some damage
+pub run_damaged : (before now : Outside) (number : ℕ) (held : Kept) (damage : Damage) → HasRun before now number → before.content ≡ Some held → first_damage held.rows ≡ Some damage
     → (IsCutShort number ⊎ (number ≡ 7)) × (now.written ≡ before.written)
 run_damaged before now number held damage (inl h) e d = (subst (λ n. IsCutShort n ⊎ (n ≡ 7)) (sym h.status) (unopened_status h.fault), h.written)
 run_damaged before now number held damage (inr h) e d = absurd (never_opened before.content before.faults h.shop held damage h.opened e d)
 
 -- ---- what a run writes
 
-module _ (each : (bytes : List ℕ) (r : Request) (used : ℕ) → cut bytes ≡ whole r used → IsServed r) where
-  pub run_written : (before now : Outside) (number : ℕ) (all kept : List ℕ) (start : State) → HasRun before now number → before.left ≡ Some all → before.written ≡ Some kept → Keeps before.content start
-      → HasWritten start all kept now.written number
-  run_written before now number all kept start (inl h) told begun k =
-      unwritten each start all kept now.written number (h.written ∙ begun)
-      (subst IsCutShort (sym h.status) (unopened_short before.content before.faults now.faults start h.fault h.cause k))
-  run_written before now number all kept start (inr h) told begun k =
-      let c = h.connected in
-      let session : Session (AtMoment Gives) fatal_text cut most_requests c.first c.last (Some all) now.left (Some kept) now.written h.ended =
-      subst (λ w. Session (AtMoment Gives) fatal_text cut most_requests c.first c.last (Some all) now.left w now.written h.ended) begun
-      (subst (λ l. Session (AtMoment Gives) fatal_text cut most_requests c.first c.last l now.left before.written now.written h.ended) told c.session) in
-      let state : stand_of c.first ≡ start = ap state_of c.begins ∙ opened_state before.content before.faults h.shop start h.opened h.is_shop k in
-      subst (λ s. HasWritten s all kept now.written number) state
-      (subst (λ n. HasWritten (stand_of c.first) all kept now.written n) (sym h.status)
-      (written_by each c.first c.last all kept now.left now.written h.ended session))
+pub run_written : (before now : Outside) (number : ℕ) (all kept : List ℕ) (start : State) → HasRun before now number → before.left ≡ Some all → before.written ≡ Some kept → Keeps before.content start
+    → HasWritten start all kept now.written number
+run_written before now number all kept start (inl h) told begun k =
+    unwritten start all kept now.written number (h.written ∙ begun)
+    (subst IsCutShort (sym h.status) (unopened_short before.content before.faults now.faults start h.fault h.cause k))
+run_written before now number all kept start (inr h) told begun k =
+    let c = h.connected in
+    let session : Session (AtMoment Gives) fatal_text cut most_requests c.first c.last (Some all) now.left (Some kept) now.written h.ended =
+    subst (λ w. Session (AtMoment Gives) fatal_text cut most_requests c.first c.last (Some all) now.left w now.written h.ended) begun
+    (subst (λ l. Session (AtMoment Gives) fatal_text cut most_requests c.first c.last l now.left before.written now.written h.ended) told c.session) in
+    let state : stand_of c.first ≡ start = ap state_of c.begins ∙ opened_state before.content before.faults h.shop start h.opened h.is_shop k in
+    subst (λ s. HasWritten s all kept now.written number) state
+    (subst (λ n. HasWritten (stand_of c.first) all kept now.written n) (sym h.status)
+    (written_by c.first c.last all kept now.left now.written h.ended session))
 
 -- ---- the status of a check
 
@@ -239,7 +239,7 @@ rare number n e a b c = record { usage = λ h. a (sym e ∙ h); read = λ h. b (
 
 pub reported_rare : (before now : Outside) (number : ℕ) → HasReported before now number → Rare number
 reported_rare before now number h = elim h.reported.2 as (λ _. Rare number) [
-  | inl k ↦ elim (reported_status h.loaded (first_damage None h.loaded.rows)) as (λ _. Rare number) [
+  | inl k ↦ elim (reported_status h.loaded (first_damage h.loaded.rows)) as (λ _. Rare number) [
     | inl z ↦ rare number 0 (k.0 ∙ z) (λ e. cc) (λ e. cc) (λ e. cc)
     | inr z ↦ rare number 7 (k.0 ∙ z) (λ e. cc) (λ e. cc) (λ e. cc)
   ]

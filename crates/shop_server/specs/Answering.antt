@@ -1,30 +1,69 @@
--- How a shop answers a request of one of the two forms, and what it leaves.
-use Rattle.std.specs.Prelude.{ℕ, zero, suc, ℤ, ◌≡◌, ◌≤◌, ◌+◌, ◌-◌, ◌^◌, ◌++◌, min, Bool, true, false, List, [], ◌∷◌, length, map, Option, Some, None, is_some}
-use Rattle.std.specs.List.{fold, AllByRecursion}
-use Rattle.shop_defs.specs.declared.key.Key.{Key}
-use Rattle.shop_defs.specs.declared.row.Row.{Row}
-use Rattle.shop_defs.specs.Rows.{row_at}
+-- How a shop answers a request, and what it leaves.
+use Rattle.std.specs.Prelude.{ℕ, zero, suc, ℤ, ◌≡◌, ◌≤◌, ◌+◌, ◌-◌, ◌^◌, ◌++◌, min, Bool, List, [], ◌∷◌, length, map, Option, Some, None, is_some, IsSome, ◌↔◌, Result, Ok, Err}
+use Rattle.std.specs.List.{AllByRecursion}
+use Rattle.shop_defs.specs.declared.broken.Broken.{Broken}
+use Rattle.shop_defs.specs.declared.command.Command.{Command}
+use Rattle.shop_defs.specs.declared.line_fault.LineFault.{LineFault}
+use Rattle.shop_defs.specs.declared.line_fault.LineFault.TheVariants as lines
+use Rattle.shop_defs.specs.declared.route.Route.{Route}
 use Rattle.shop_outside.specs.Causes.{Rose}
-use Rattle.shop_outside.specs.Clocks.{IsMoment, Ticks, Tells}
-use Rattle.shop_core.specs.Steps.{Stepped, accepted, refused, unbuilt, step, IsAccepted, insertion, category_key}
+use Rattle.shop_outside.specs.Clocks.{IsMoment, Tells}
+use Rattle.shop_core.specs.declared.answers.Reply.{Reply}
+use Rattle.shop_core.specs.declared.answers.Reply.TheVariants as replies
+use Rattle.shop_core.specs.declared.answers.Request as shop
+use Rattle.shop_core.specs.declared.answers.Request.TheVariants as requests
+use Rattle.shop_core.specs.Requests.{answered, listing, reading, with_bare}
+use Rattle.shop_core.specs.Steps.{Stepped, accepted, refused, unbuilt, step, IsAccepted}
 use Rattle.shop_core.specs.History.{State, after_step}
 use Rattle.shop_core.specs.Shops.{ShopView, state_of}
+use Rattle.shop_http.specs.declared.respond.Method2.{Method2}
 use Rattle.shop_http.specs.Requests.{Request, Asked}
 use Rattle.shop_http.specs.Responses.{response_text, no_memory_text}
-use Rattle.shop_server.specs.declared.form.Form.{Form}
-use Rattle.shop_server.specs.declared.form.Form.TheVariants.{Insert, Show}
-use Rattle.shop_server.specs.Bodies.{done_body, row_body, no_such_row_body, history_full_body, store_failed_body}
-use Rattle.shop_server.specs.Cutting.{form_of}
+use Rattle.shop_json.specs.Asking.{request_in}
+use Rattle.shop_json.specs.Replying.{reply_body, reply_status}
+use Rattle.shop_routes.specs.declared.router.RouteFault.{RouteFault}
+use Rattle.shop_routes.specs.declared.router.RouteFault.TheVariants as faults
+use Rattle.shop_routes.specs.Routing.{routed}
+use Rattle.body_json.specs.declared.fault.BodyFault.{BodyFault}
+use Rattle.body_json.specs.declared.fault.BodyFault.TheVariants as bodies
+use Rattle.shop_server.specs.declared.turned.TurnedAway.{TurnedAway}
+use Rattle.shop_server.specs.declared.turned.TurnedAway.TheVariants as turned
 use Rattle.shop_server.specs.Session.{Answers, AtMoment, Timed}
 
 -- ---- what is asked
 
--- the request is of that form
-abbrev pub IsOf : Request → Form → Type 0
-IsOf r form = form_of r ≡ Some form
+-- what a request asks: something of the shop; or it is turned away, with the method that its path takes, where another was used
+pub data Form : Type 0 where
+  asks : shop.Request → Form
+  turned_away : LineFault → Option Method2 → Form
 
-abbrev pub IsServed : Request → Type 0
-IsServed r = (form : Form) × IsOf r form
+-- why a request has no route; want of memory is no rule
+abbrev pub fault_of : RouteFault → LineFault
+fault_of faults.NoRoute = lines.NoRoute
+fault_of (faults.WrongMethod allow) = lines.WrongMethod
+fault_of (faults.BadPath part) = lines.BadPath part
+fault_of (faults.BadHeader name) = lines.BadHeader name
+fault_of faults.NoMemory = lines.NoRoute
+
+-- the method that the path takes, where another was used
+abbrev pub allow_of : RouteFault → Option Method2
+allow_of (faults.WrongMethod allow) = Some allow
+allow_of fault = None
+
+abbrev pub by_request : Result shop.Request LineFault → Form
+by_request (Ok request) = asks request
+by_request (Err fault) = turned_away fault None
+
+abbrev pub by_route : List ℕ → Result Route RouteFault → Form
+by_route body (Ok route) = by_request (request_in route body)
+by_route body (Err fault) = turned_away (fault_of fault) (allow_of fault)
+
+-- what a request asks, by its line, its headers and its body
+unfoldable pub form_of : Request → Form
+form_of r = by_route r.body (routed r)
+
+abbrev pub IsOf : Request → Form → Type 0
+IsOf r form = form_of r ≡ form
 
 -- how the answer to a request came about
 pub data Way : Type 0 where
@@ -41,45 +80,45 @@ pub record Served : Type 0 where
 
 -- ---- one reply
 
--- a reply: its status and its body
-pub record Reply : Type 0 where
-  pub status : ℕ
-  pub body : List ℕ
-
-abbrev pub history_full : Reply
-history_full = record { status = 409; body = history_full_body }
-
-abbrev pub store_failed : Reply
-store_failed = record { status = 503; body = store_failed_body }
-
--- a write is done as the entry of that number, or refused: so far, only since no more entries are accepted
+-- a write is done as the entry of that number, or refused
 abbrev pub written : ℕ → Stepped → Reply
-written number (accepted rows value) = record { status = 200; body = done_body number value }
-written number (refused rule) = history_full
-written number unbuilt = history_full
+written number (accepted rows value) = replies.Done (record { front = number; value = value })
+written number (refused rule) = replies.Refused rule
+written number unbuilt = replies.Line lines.NotBuilt
 
-abbrev pub shown : Key → Option Row → Reply
-shown key None = record { status = 404; body = no_such_row_body key }
-shown key (Some row) = record { status = 200; body = row_body row }
+-- a read shows something, or breaks a rule
+abbrev pub shown : Result Reply Broken → Reply
+shown (Ok reply) = reply
+shown (Err broken) = replies.Refused (record { op = 0; broken = broken })
 
--- what becomes of the write of that id
-abbrev pub write_at : State → ℕ → ℤ → Stepped
-write_at state id moment = step state.rows state.number (insertion id) moment
+-- what becomes of a command
+abbrev pub write_at : State → Command → ℤ → Stepped
+write_at state command moment = step state.rows state.number command moment
 
--- the reply by the rows
+-- the reply to a request by the rows
+abbrev pub reply_to : State → shop.Request → ℤ → Reply
+reply_to state (requests.Write command) moment = written (state.number + 1) (write_at state command moment)
+reply_to state (requests.Row read) moment = shown (answered replies.Row (reading state.rows read))
+reply_to state (requests.RowList entity id second) moment = shown (answered replies.RowList (with_bare (listing state.rows entity id second)))
+
 abbrev pub reply : State → Form → ℤ → Reply
-reply state (Insert id) moment = written (state.number + 1) (write_at state id moment)
-reply state (Show id) moment = shown (category_key id) (row_at state.rows (category_key id))
+reply state (asks request) moment = reply_to state request moment
+reply state (turned_away fault allow) moment = replies.Line fault
+
+-- the method that the response names
+abbrev pub allowed : Form → Option Method2
+allowed (asks request) = None
+allowed (turned_away fault allow) = allow
 
 -- the bytes of a reply, where `last` says that the connection is closed after it
-abbrev pub reply_text : Reply → Bool → List ℕ
-reply_text reply last = response_text reply.status reply.body None last
+abbrev pub reply_text : Reply → Option Method2 → Bool → List ℕ
+reply_text reply allow last = response_text (reply_status reply) (reply_body reply) allow last
 
 -- the bytes of the response, by how the answer came about
 abbrev pub text_by : Way → State → Form → ℤ → Bool → List ℕ
-text_by worked_out state form moment last = reply_text (reply state form moment) last
+text_by worked_out state form moment last = reply_text (reply state form moment) (allowed form) last
 text_by short state form moment last = no_memory_text last
-text_by failed state form moment last = reply_text store_failed last
+text_by failed state form moment last = reply_text replies.StoreFailed None last
 
 abbrev pub served_text : State → Served → List ℕ
 served_text state one = text_by one.way state one.form one.moment one.last
@@ -88,8 +127,8 @@ served_text state one = text_by one.way state one.form one.moment one.last
 
 -- the rows and the number after a request that was answered by the rows
 abbrev pub after : State → Form → ℤ → State
-after state (Insert id) moment = after_step state (write_at state id moment)
-after state (Show id) moment = state
+after state (asks (requests.Write command)) moment = after_step state (write_at state command moment)
+after state form moment = state
 
 -- nothing is changed where memory ran out or the keeper failed
 abbrev pub left_by : Way → State → Form → ℤ → State
@@ -102,8 +141,8 @@ after_served state one = left_by one.way state one.form one.moment
 
 -- the request is a write that is accepted
 abbrev pub IsAcceptedWrite : State → Form → ℤ → Type 0
-IsAcceptedWrite state (Insert id) moment = IsAccepted (write_at state id moment)
-IsAcceptedWrite state (Show id) moment = ⊥
+IsAcceptedWrite state (asks (requests.Write command)) moment = IsAccepted (write_at state command moment)
+IsAcceptedWrite state form moment = ⊥
 
 -- the keeper is asked, and so may fail, only at a write that is accepted
 abbrev pub MayComeBy : Way → State → Form → ℤ → Type 0
@@ -124,8 +163,8 @@ stand_of desk = state_of desk.answerer
 -- the keeper's count of faults after a request: where memory ran out for the response to a write, the keeper may have failed before
 abbrev pub Counts : ℕ → ℕ → Form → Way → Type 0
 Counts before now form worked_out = now ≡ before
-Counts before now (Insert id) short = before ≤ now
-Counts before now (Show id) short = now ≡ before
+Counts before now (asks (requests.Write command)) short = before ≤ now
+Counts before now form short = now ≡ before
 Counts before now form failed = (before ≤ now) × Rose before now
 
 -- A request was answered by these bytes so, and left that.
@@ -151,9 +190,9 @@ AreServed state (ask ∷ asked) [] = ⊥
 AreServed state (ask ∷ asked) (one ∷ served) = IsOf ask.request one.form × (one.last ≡ ask.last) × MayBe state one × AreServed (after_served state one) asked served
 
 -- the responses, one after the other, the rows being carried along
-abbrev pub replies : State → List Served → List ℕ
-replies state [] = []
-replies state (one ∷ served) = served_text state one ++ replies (after_served state one) served
+abbrev pub responses : State → List Served → List ℕ
+responses state [] = []
+responses state (one ∷ served) = served_text state one ++ responses (after_served state one) served
 
 -- what the requests leave
 abbrev pub after_all : State → List Served → State
@@ -192,7 +231,7 @@ ComeAfter n (Some told) now = Tells now (λ k. told (k + n))
 -- Requests were answered so, one after the other, and left that.
 pub record HaveServed (served : List Served) (old : DeskView) (asked : List Asked) (out : List ℕ) (new : DeskView) : Type 0 where
   pub each : AreServed (stand_of old) asked served
-  pub text : out ≡ replies (stand_of old) served
+  pub text : out ≡ responses (stand_of old) served
   pub left : stand_of new ≡ after_all (stand_of old) served
   pub counts : RoseBy (failures served) old.answerer.faults new.answerer.faults
   pub moments : HaveMoments old.coming served
@@ -208,14 +247,14 @@ RepliesAreAFold = (old new : DeskView) (asked : List Asked) (out : List ℕ) →
 abbrev pub FewAreAccepted : Type 0
 FewAreAccepted = (old new : DeskView) (asked : List Asked) (out : List ℕ) → Answers (AtMoment Gives) old asked out new → new.answerer.number ≤ old.answerer.number + length asked
 
--- ---- a write at a shop (no public contract cites these)
+-- ---- one request at a shop (no public contract cites these)
 
--- A write of that id was answered by these bytes so, and left that.
-pub record WritesBy (way : Way) (old : ShopView) (id : ℕ) (moment : ℤ) (last : Bool) (out : List ℕ) (new : ShopView) : Type 0 where
-  pub may : MayComeBy way (state_of old) (Insert id) moment
-  pub text : out ≡ text_by way (state_of old) (Insert id) moment last
-  pub left : state_of new ≡ left_by way (state_of old) (Insert id) moment
-  pub counts : Counts old.faults new.faults (Insert id) way
+-- What a form was answered by, so and with these bytes, and what that left.
+pub record ServesBy (way : Way) (old : ShopView) (form : Form) (moment : ℤ) (last : Bool) (out : List ℕ) (new : ShopView) : Type 0 where
+  pub may : MayComeBy way (state_of old) form moment
+  pub text : out ≡ text_by way (state_of old) form moment last
+  pub left : state_of new ≡ left_by way (state_of old) form moment
+  pub counts : Counts old.faults new.faults form way
   pub told : is_some new.content ≡ is_some old.content
 
 -- where memory ran out, nothing is changed but the count of faults
@@ -223,3 +262,24 @@ pub record IsLeft (old new : ShopView) : Type 0 where
   pub state : state_of new ≡ state_of old
   pub faults : old.faults ≤ new.faults
   pub told : is_some new.content ≡ is_some old.content
+
+-- the method that is allowed is given exactly where the status of the reply is 405
+abbrev pub Allows : Reply → Option Method2 → Type 0
+Allows reply allow = IsSome allow ↔ (reply_status reply ≡ 405)
+
+-- why a request that has no route is turned away
+abbrev pub turned_by_route : RouteFault → TurnedAway
+turned_by_route faults.NoMemory = turned.NoMemory
+turned_by_route fault = turned.Line (fault_of fault) (allow_of fault)
+
+-- why a request with another body is turned away
+abbrev pub turned_by_body : BodyFault → TurnedAway
+turned_by_body bodies.BadJson = turned.Line lines.BadJson None
+turned_by_body (bodies.BadShape pointer) = turned.Line (lines.BadShape pointer) None
+turned_by_body bodies.NoMemory = turned.NoMemory
+
+-- the form of a request was found: it is one that asks that, or is turned away so
+abbrev pub IsForm : Form → Result shop.Request TurnedAway → Type 0
+IsForm form (Ok request) = form ≡ asks request
+IsForm form (Err (turned.Line fault allow)) = (form ≡ turned_away fault allow) × Allows (replies.Line fault) allow
+IsForm form (Err turned.NoMemory) = Unit {0}

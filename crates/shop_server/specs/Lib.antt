@@ -2,7 +2,6 @@ pub mod Session
 pub mod Serving
 pub mod Outcome
 pub mod Cutting
-pub mod Bodies
 pub mod Answering
 pub mod Reports
 pub mod Run

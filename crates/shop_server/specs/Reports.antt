@@ -2,9 +2,9 @@
 use Rattle.std.specs.Prelude.{ℕ, ◌++◌, List, length, codes, Option, Some, None}
 use Rattle.std.specs.Fmt.{decimal}
 use Rattle.shop_outside.specs.declared.keeper.Kept.{Kept}
-use Rattle.shop_rows.specs.Damage.{Damage, first_damage}
-use Rattle.shop_rows.specs.Rules.{rule_text}
-use Rattle.shop_server.specs.Bodies.{key_text}
+use Rattle.shop_check.specs.Damage.{Damage, first_damage}
+use Rattle.shop_check.specs.Rules.{rule_text}
+use Rattle.reply_json.specs.KeyTexts.{key_text}
 
 -- how many rows there are, and the number of entries that led to them
 abbrev pub count_lines : ℕ → ℕ → List ℕ
@@ -24,4 +24,4 @@ reported held None = record { text = count_lines (length held.rows) held.number;
 reported held (Some damage) = record { text = damage_line damage; status = 7 }
 
 abbrev pub report_of : Kept → Report
-report_of held = reported held (first_damage None held.rows)
+report_of held = reported held (first_damage held.rows)

@@ -1,20 +1,20 @@
 -- The program's call.
-use Rattle.std.specs.Prelude.{ℕ, ℤ, ◌≡◌, ◌++◌, ◌⊎◌, List, [], Option, Some, None}
+use Rattle.std.specs.Prelude.{ℕ, ℤ, ◌≡◌, ◌++◌, ◌⊎◌, List, [], Option, Some, None, true}
 use Rattle.std.specs.Io.KnownBytes.{Appends}
 use Rattle.shop_outside.specs.declared.keeper.Kept.{Kept}
-use Rattle.shop_rows.specs.Soundness.{kept, AreSound}
+use Rattle.shop_check.specs.Soundness.{kept, AreSound}
 use Rattle.shop_core.specs.declared.answers.OpenFault.{OpenFault}
 use Rattle.shop_core.specs.declared.answers.OpenFault.TheVariants as opening
 use Rattle.shop_core.specs.History.{State}
 use Rattle.shop_core.specs.Opening.{Opens, HasOpenCause, IsLoaded}
 use Rattle.shop_core.specs.Shops.{ShopView, IsShop}
 use Rattle.shop_http.specs.Requests.{Cuts, Ending, open_at, refused, closing, spent, requests}
-use Rattle.shop_http.specs.Responses.{not_built_text}
-use Rattle.shop_server.specs.declared.form.Refusal.{Refusal}
+use Rattle.shop_core.specs.declared.answers.Reply.TheVariants as replied
+use Rattle.shop_server.specs.declared.refusal.Refusal.{Refusal}
 use Rattle.shop_server.specs.declared.session.Ended.{Ended}
 use Rattle.shop_server.specs.declared.session.Ended.TheVariants.{Closed, HeadRefused, Spent, Truncated, ReadFault, WriteFault, NoMemory}
-use Rattle.shop_server.specs.Answering.{DeskView, stand_of, Gives, Served, HaveServed, AreServed, replies}
-use Rattle.shop_server.specs.Cutting.{cut}
+use Rattle.shop_server.specs.Answering.{reply_text, DeskView, Gives, Served, HaveServed, AreServed, responses}
+use Rattle.shop_server.specs.Cutting.{cut, line_of}
 use Rattle.shop_server.specs.Outcome.{ended_of}
 use Rattle.shop_server.specs.Session.{AtMoment, Session, IsFront, most_requests}
 use Rattle.shop_server.specs.Reports.{damage_line, report_of}
@@ -67,9 +67,9 @@ pub record HasNotOpened (before now : Outside) (number : ℕ) : Type 0 where
 
 -- ---- run
 
--- what isn't served is answered by this, whatever it is
+-- the reply to what isn't served, after which the connection is closed
 abbrev pub fatal_text : Refusal → List ℕ
-fatal_text fault = not_built_text
+fatal_text refusal = reply_text (replied.Line (line_of refusal)) None true
 
 -- Behind the responses to the requests that were answered stands the fatal reply, where it was due and all were answered; and
 -- after a failed write a front of both was written.
@@ -124,7 +124,7 @@ fatal_end spent = []
 -- The whole output for a list of requests: the responses, one after the other, from those rows on, and the fatal reply where it
 -- is due.
 abbrev pub IsOutput : State → Cuts Refusal → List ℕ → Type 0
-IsOutput state cuts output = (served : List Served) × AreServed state cuts.asked served × (output ≡ replies state served ++ fatal_end cuts.ending)
+IsOutput state cuts output = (served : List Served) × AreServed state cuts.asked served × (output ≡ responses state served ++ fatal_end cuts.ending)
 
 -- Behind what was written before stands a front of the output for the whole input, and at any status but 3, 4, 5 and 9 all of it.
 abbrev pub HasWritten : State → List ℕ → List ℕ → Option (List ℕ) → ℕ → Type 0

@@ -2,23 +2,21 @@
 #![tactic(auto)]
 
 mod answerer;
-mod asked;
-mod bodies;
 mod check;
 mod desk;
-mod form;
 mod framing;
 mod input;
+mod refusal;
 mod reports;
 mod run;
+mod served;
 mod session;
 mod status;
-mod two_forms;
+mod turned;
 mod words;
 mod writing;
 
 pub use answerer::Answerer;
-pub use asked::law_of_the_forms;
 pub use desk::{law_of_the_count, law_of_the_replies};
 pub use framing::Framing;
 pub use run::run_shop;

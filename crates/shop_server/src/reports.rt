@@ -1,10 +1,11 @@
 //! What `check` reports of the rows that a keeper holds.
-ghost use Rattle.std.specs.Prelude.{◌≡◌, IfOk};
+ghost use Rattle.std.specs.Prelude.{◌≡◌, ◌++◌, decimal, IfOk, OnOk};
+ghost use Rattle.reply_json.specs.KeyTexts.{key_text, marked};
 ghost use Rattle.shop_server.specs.Reports.{count_lines, damage_line};
 
-use crate::bodies::{put_count, put_key};
-use shop_defs::{Key, NoMemory};
-use shop_rows::Rule;
+use itoa::Buffer;
+use shop_check::Rule;
+use shop_defs::{Key, NoMemory, entity_name, print_id};
 use std::alloc::Global;
 
 /// No report is longer than that, in bytes.
@@ -34,4 +35,36 @@ pub(crate) fn damage(alloc: Global, key: &Key, rule: Rule) -> Result<Vec<u8>, No
     text.extend_from_slice(rule.text().as_bytes())?;
     text.extend_from_slice(b"\n")?;
     Ok(text)
+}
+
+/// Puts the decimal digits of a count.
+fn put_count(out: &mut Vec<u8>, count: u64) -> Result<(), NoMemory>
+    ensures { OnOk result (out.new.items ≡ out.old.items ++ decimal count) }
+{
+    let mut digits = Buffer::new();
+    out.extend_from_slice(digits.format(count).as_bytes())?;
+    Ok(())
+}
+
+/// Puts the text of a key: `ENTITY/ID`, then `/SECOND` and `@VERSION` where the key has them, each number as 32 digits.
+#[tactic(auto, unfolding(reply_json::specs::KeyTexts::key_text))]
+fn put_key(out: &mut Vec<u8>, key: &Key) -> Result<(), NoMemory>
+    ensures { OnOk result (out.new.items ≡ out.old.items ++ key_text key.now) }
+{
+    out.extend_from_slice(entity_name(key.entity).as_bytes())?;
+    out.extend_from_slice(b"/")?;
+    out.extend_from_slice(&print_id(key.id))?;
+    put_marked(out, b"/", key.second)?;
+    put_marked(out, b"@", key.version)
+}
+
+/// Puts a number of a key behind a mark, where it isn't 0.
+fn put_marked(out: &mut Vec<u8>, mark: &[u8], number: u128) -> Result<(), NoMemory>
+    ensures { OnOk result (out.new.items ≡ out.old.items ++ marked mark.now number) }
+{
+    if number != 0 {
+        out.extend_from_slice(mark)?;
+        out.extend_from_slice(&print_id(number))?;
+    }
+    Ok(())
 }

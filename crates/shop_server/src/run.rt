@@ -5,7 +5,7 @@ ghost use Rattle.shop_outside.specs.declared.keeper.Kept.{Kept};
 ghost use Rattle.shop_core.specs.History.{State};
 ghost use Rattle.shop_core.specs.Shops.{IsShop, ShopView};
 ghost use Rattle.shop_http.specs.Requests.{requests};
-ghost use Rattle.shop_rows.specs.Damage.{Damage, first_damage};
+ghost use Rattle.shop_check.specs.Damage.{Damage, first_damage};
 ghost use Rattle.shop_server.specs.Answering.{Gives};
 ghost use Rattle.shop_server.specs.Cutting.{cut};
 ghost use Rattle.shop_server.specs.Session.{AtMoment, Session, most_requests};
@@ -14,12 +14,14 @@ ghost use Rattle.shop_server.specs.Reports.{report_of};
 ghost use Rattle.shop_server.specs.Run.{HasChecked, HasRun, HasWritten, IsCutShort, Keeps, fatal_text, number_at};
 
 use crate::check::check;
+use crate::desk::Desk;
+use crate::served::ServedRequests;
 use crate::session::{Ended, serve};
 use crate::status::{Status, status_of, status_unopened};
-use crate::two_forms::TwoForms;
 use crate::words::{Verb, verb_of};
 use shop_core::{ShopState, open_shop};
 use shop_outside::{Clock, Keeper, Pair, Sink, Source};
+use shop_routes::Routes;
 use std::alloc::Global;
 
 /// Serves one connection over a source and a sink, and gives the shop's keeper back.
@@ -29,6 +31,7 @@ fn serve_over<S: Source, K: Sink, P: Keeper + Drop, C: Clock>(
     sink: &mut K,
     shop: ShopState<P>,
     clock: &mut C,
+    routes: &Routes,
 ) -> (P, Ended)
     ensures session { (last : ShopView) × Session (AtMoment Gives) fatal_text cut most_requests
         (record { answerer = shop; coming = C.coming clock.old }) (record { answerer = last; coming = C.coming clock.new })
@@ -39,10 +42,16 @@ fn serve_over<S: Source, K: Sink, P: Keeper + Drop, C: Clock>(
     ensures reads_kept { (result.1 ≡ Ended.ReadFault → ⊥) → S.read_faults source.new ≡ S.read_faults source.old }
     ensures writes_kept { (result.1 ≡ Ended.WriteFault → ⊥) → K.write_faults sink.new ≡ K.write_faults sink.old }
 {
-    let mut shop = shop;
+    let mut desk = Desk::new(shop, routes);
     let mut link = Pair { source, sink };
-    let ended = serve(alloc, &mut link, &TwoForms, &mut shop, clock);
-    (shop.close(), ended)
+    let ended = serve(
+        alloc,
+        &mut link,
+        &ServedRequests { routes },
+        &mut desk,
+        clock,
+    );
+    (desk.close(), ended)
 }
 
 /// Opens the shop that the keeper holds, and serves one connection over it.
@@ -62,9 +71,12 @@ fn run<S: Source, K: Sink, P: Keeper + Drop, C: Clock>(
     ensures reads_kept { (result.1.number ≡ 3 → ⊥) → S.read_faults source.new ≡ S.read_faults source.old }
     ensures writes_kept { (result.1.number ≡ 4 → ⊥) → K.write_faults sink.new ≡ K.write_faults sink.old }
 {
+    let Ok(routes) = Routes::new(alloc) else {
+        return (keeper, Status { number: 9 });
+    };
     match open_shop(alloc, keeper) {
         Ok(shop) => {
-            let (keeper, ended) = serve_over(alloc, source, sink, shop, clock);
+            let (keeper, ended) = serve_over(alloc, source, sink, shop, clock, &routes);
             (keeper, status_of(ended))
         }
         Err((keeper, fault)) => (keeper, status_unopened(&fault)),
@@ -90,7 +102,7 @@ fn run<S: Source, K: Sink, P: Keeper + Drop, C: Clock>(
 /// | 7 | what the keeper holds is damaged |
 /// | 9 | memory for the rows, the buffer or the report was refused |
 /// | 10 | 1,000,000 requests were answered |
-/// | 12 | a whole request is of no form that is served, or what was left is no request however it goes on: `not_built` was answered |
+/// | 12 | what was left is no request however it goes on, or a request whose answer isn't there yet: it was refused |
 pub fn run_shop<S: Source, K: Sink, P: Keeper + Drop, C: Clock>(
     alloc: Global,
     words: &[String],
@@ -128,7 +140,7 @@ pub fn run_shop<S: Source, K: Sink, P: Keeper + Drop, C: Clock>(
     // Where nothing failed and memory sufficed, the status is that of what the keeper holds and of the whole input.
     ensures exact { (all : List ℕ) (start : State) → IsRun words.now → S.left source.old ≡ Some all → Keeps (P.content keeper) start
         → IsCutShort result.1.number ⊎ (result.1.number ≡ number_at (requests cut most_requests all).ending) }
-    ensures damaged { (held : Kept) (damage : Damage) → IsRun words.now → P.content keeper ≡ Some held → first_damage None held.rows ≡ Some damage
+    ensures damaged { (held : Kept) (damage : Damage) → IsRun words.now → P.content keeper ≡ Some held → first_damage held.rows ≡ Some damage
         → (IsCutShort result.1.number ⊎ (result.1.number ≡ 7)) × (K.written sink.new ≡ K.written sink.old) }
     ensures sound { (start : State) → IsCheck words.now → Keeps (P.content keeper) start
         → IsCutShort result.1.number ⊎ (result.1.number ≡ 0) }

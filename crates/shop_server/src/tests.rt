@@ -58,24 +58,44 @@ const CURL_READ: &[u8] =
 const ODD_READ: &[u8] =
     b"\r\nGET /row/category/00000000000000000000000000000010 HTTP/1.1\nContent-Length: 3\n\nabc";
 
-/// Requests of no form.
+/// Reads that ask to close.
 const CLOSING_READ: &[u8] =
     b"GET /row/category/00000000000000000000000000000010 HTTP/1.1\r\nConnection: keep-alive, Close\r\n\r\n";
 
 const OLD_READ: &[u8] = b"GET /row/category/00000000000000000000000000000010 HTTP/1.0\r\n\r\n";
 
+const SHOWN_LAST: &[u8] =
+    b"HTTP/1.1 200 OK\r\ncontent-type: application/json\r\ncontent-length: 130\r\nconnection: close\r\n\r\n{\"fields\":{\"active\":true,\"position\":0},\"key\":\"category/00000000000000000000000000000010\",\"shown\":{\"description\":null,\"name\":null}}";
+
+/// Requests that are turned away, and how.
 const DRAFT_READ: &[u8] =
     b"GET /row/category/00000000000000000000000000000010 HTTP/1.1\r\nX-Version-Id: 00000000000000000000000000000070\r\n\r\n";
 
+const NO_VERSION: &[u8] =
+    b"HTTP/1.1 404 Not Found\r\ncontent-type: application/json\r\ncontent-length: 72\r\n\r\n{\"error\":\"no_such_version\",\"version\":\"00000000000000000000000000000070\"}";
+
 const LONG_PATH: &[u8] = b"GET /row/category/000000000000000000000000000000100 HTTP/1.1\r\n\r\n";
 
+const BAD_PATH: &[u8] =
+    b"HTTP/1.1 400 Bad Request\r\ncontent-type: application/json\r\ncontent-length: 32\r\n\r\n{\"error\":\"bad_path\",\"part\":\"id\"}";
+
 const PUT: &[u8] = b"PUT /row/category/00000000000000000000000000000010 HTTP/1.1\r\n\r\n";
+
+const WRONG_METHOD: &[u8] =
+    b"HTTP/1.1 405 Method Not Allowed\r\ncontent-type: application/json\r\ncontent-length: 24\r\nallow: GET\r\n\r\n{\"error\":\"wrong_method\"}";
 
 const NIL_WRITE: &[u8] =
     b"POST /sync HTTP/1.1\r\nContent-Length: 89\r\n\r\n[{\"op\":\"upsert\",\"entity\":\"category\",\"id\":\"00000000000000000000000000000000\",\"fields\":{}}]";
 
-const SPACED_WRITE: &[u8] =
-    b"POST /sync HTTP/1.1\r\nContent-Length: 90\r\n\r\n[{\"op\":\"upsert\",\"entity\":\"category\",\"id\":\"00000000000000000000000000000010\",\"fields\":{}} ]";
+const BAD_SHAPE: &[u8] =
+    b"HTTP/1.1 400 Bad Request\r\ncontent-type: application/json\r\ncontent-length: 39\r\n\r\n{\"error\":\"bad_shape\",\"pointer\":\"/0/id\"}";
+
+/// A batch whose second operation is refused, after one that is done.
+const HALF_WRITE: &[u8] =
+    b"POST /sync HTTP/1.1\r\nContent-Length: 153\r\n\r\n[{\"op\":\"upsert\",\"entity\":\"category\",\"id\":\"00000000000000000000000000000011\"},{\"op\":\"delete\",\"entity\":\"category\",\"id\":\"00000000000000000000000000000012\"}]";
+
+const HALF_REFUSED: &[u8] =
+    b"HTTP/1.1 404 Not Found\r\ncontent-type: application/json\r\ncontent-length: 80\r\n\r\n{\"error\":\"no_such_row\",\"key\":\"category/00000000000000000000000000000012\",\"op\":2}";
 
 /// Heads that are refused whatever follows.
 const CHUNKED: &[u8] = b"POST /sync HTTP/1.1\r\nTransfer-Encoding: chunked\r\n\r\n";
@@ -83,6 +103,15 @@ const CHUNKED: &[u8] = b"POST /sync HTTP/1.1\r\nTransfer-Encoding: chunked\r\n\r
 const TOO_LARGE: &[u8] = b"POST /sync HTTP/1.1\r\nContent-Length: 1048577\r\n\r\n";
 
 const NO_HEAD: &[u8] = b"hello\r\n\r\n";
+
+const IS_CHUNKED: &[u8] =
+    b"HTTP/1.1 501 Not Implemented\r\ncontent-type: application/json\r\ncontent-length: 19\r\nconnection: close\r\n\r\n{\"error\":\"chunked\"}";
+
+const IS_TOO_LARGE: &[u8] =
+    b"HTTP/1.1 413 Payload Too Large\r\ncontent-type: application/json\r\ncontent-length: 26\r\nconnection: close\r\n\r\n{\"error\":\"body_too_large\"}";
+
+const IS_NO_HEAD: &[u8] =
+    b"HTTP/1.1 400 Bad Request\r\ncontent-type: application/json\r\ncontent-length: 20\r\nconnection: close\r\n\r\n{\"error\":\"bad_head\"}";
 
 /// What a run is handed, and what it must write and end with.
 struct Case {
@@ -149,52 +178,52 @@ const CASES: [Case; 21] = [
     },
     Case {
         input: [WRITE, CLOSING_READ, READ],
-        output: [WRITTEN, NOT_BUILT, b""],
-        status: 12,
+        output: [WRITTEN, SHOWN_LAST, b""],
+        status: 0,
     },
     Case {
         input: [WRITE, OLD_READ, READ],
-        output: [WRITTEN, NOT_BUILT, b""],
-        status: 12,
+        output: [WRITTEN, SHOWN_LAST, b""],
+        status: 0,
     },
     Case {
         input: [WRITE, DRAFT_READ, READ],
-        output: [WRITTEN, NOT_BUILT, b""],
-        status: 12,
+        output: [WRITTEN, NO_VERSION, SHOWN],
+        status: 0,
     },
     Case {
         input: [WRITE, LONG_PATH, READ],
-        output: [WRITTEN, NOT_BUILT, b""],
-        status: 12,
+        output: [WRITTEN, BAD_PATH, SHOWN],
+        status: 0,
     },
     Case {
         input: [WRITE, PUT, READ],
-        output: [WRITTEN, NOT_BUILT, b""],
-        status: 12,
+        output: [WRITTEN, WRONG_METHOD, SHOWN],
+        status: 0,
     },
     Case {
         input: [WRITE, NIL_WRITE, READ],
-        output: [WRITTEN, NOT_BUILT, b""],
-        status: 12,
+        output: [WRITTEN, BAD_SHAPE, SHOWN],
+        status: 0,
     },
     Case {
-        input: [WRITE, SPACED_WRITE, READ],
-        output: [WRITTEN, NOT_BUILT, b""],
-        status: 12,
+        input: [WRITE, HALF_WRITE, READ_OTHER],
+        output: [WRITTEN, HALF_REFUSED, MISSING],
+        status: 0,
     },
     Case {
         input: [WRITE, CHUNKED, READ],
-        output: [WRITTEN, NOT_BUILT, b""],
+        output: [WRITTEN, IS_CHUNKED, b""],
         status: 12,
     },
     Case {
         input: [WRITE, TOO_LARGE, READ],
-        output: [WRITTEN, NOT_BUILT, b""],
+        output: [WRITTEN, IS_TOO_LARGE, b""],
         status: 12,
     },
     Case {
         input: [WRITE, NO_HEAD, READ],
-        output: [WRITTEN, NOT_BUILT, b""],
+        output: [WRITTEN, IS_NO_HEAD, b""],
         status: 12,
     },
 ];

@@ -1,4 +1,4 @@
-use Rattle.std.proofs.Common.{◌≡◌, length, refl, ap, ◌∙◌, subst}
+use Rattle.std.proofs.Common.{length, refl, ap, ◌∙◌, subst}
 use Rattle.shop_server.specs.Reports.{count_lines}
 use Rattle.shop_server.specs.Run.{HasReportedText}
 use Rattle.shop_server.proofs.Runs.{opened_checked, unopened_checked}

@@ -1,6 +1,5 @@
-use Rattle.std.proofs.Common.{◌≡◌, map, sym, ap, ◌∙◌, Some}
+use Rattle.std.proofs.Common.{map, sym, ap, ◌∙◌, Some}
 use Rattle.std.specs.String.{string_bytes}
-use Rattle.shop_server.specs.Lawful.{cut_is_served}
 use Rattle.shop_server.proofs.OneWord.{check_word}
 use Rattle.shop_server.proofs.Runs.{run_number, run_damaged, run_written, check_number, check_sound, check_usage, check_read, check_store}
 use Rattle.shop_server.proofs.run.run_shop.Goals as goal
@@ -12,7 +11,7 @@ pub returns-in-Some-Run-clause-damaged : goal.returns-in-Some-Run-clause-damaged
 returns-in-Some-Run-clause-damaged g c = λ held damage run told first. run_damaged _ _ _ held damage c.run.ensures.ran told first
 
 pub returns-in-Some-Run-clause-answered : goal.returns-in-Some-Run-clause-answered
-returns-in-Some-Run-clause-answered g c = λ all before start run told begun keeps. run_written cut_is_served _ _ _ all before start c.run.ensures.ran told begun keeps
+returns-in-Some-Run-clause-answered g c = λ all before start run told begun keeps. run_written _ _ _ all before start c.run.ensures.ran told begun keeps
 
 pub returns-in-Some-Check-clause-usage : goal.returns-in-Some-Check-clause-usage
 returns-in-Some-Check-clause-usage g c =
