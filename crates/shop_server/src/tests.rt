@@ -120,7 +120,7 @@ struct Case {
     status: u8,
 }
 
-const CASES: [Case; 21] = [
+const CASES: [Case; 11] = [
     Case {
         input: [WRITE, READ, b""],
         output: [WRITTEN, SHOWN, b""],
@@ -176,6 +176,10 @@ const CASES: [Case; 21] = [
         output: [WRITTEN, b"", b""],
         status: 6,
     },
+];
+
+/// Requests that ask to close, or that are turned away, behind a write.
+const TURNED_AWAY: [Case; 10] = [
     Case {
         input: [WRITE, CLOSING_READ, READ],
         output: [WRITTEN, SHOWN_LAST, b""],
@@ -328,8 +332,10 @@ fn runs_in_pieces_of_any_size(rt: HostRuntime) -> Result<(), Fail> {
             failing_read: 0,
             failing_write: 0,
         };
-        for case in &CASES {
-            expect_case(&rt, rt.alloc(), case, &line)?;
+        for cases in [CASES.as_slice(), TURNED_AWAY.as_slice()] {
+            for case in cases {
+                expect_case(&rt, rt.alloc(), case, &line)?;
+            }
         }
     }
     Ok(())
