@@ -332,10 +332,11 @@ fn runs_in_pieces_of_any_size(rt: HostRuntime) -> Result<(), Fail> {
             failing_read: 0,
             failing_write: 0,
         };
-        for cases in [CASES.as_slice(), TURNED_AWAY.as_slice()] {
-            for case in cases {
-                expect_case(&rt, rt.alloc(), case, &line)?;
-            }
+        for case in &CASES {
+            expect_case(&rt, rt.alloc(), case, &line)?;
+        }
+        for case in &TURNED_AWAY {
+            expect_case(&rt, rt.alloc(), case, &line)?;
         }
     }
     Ok(())
