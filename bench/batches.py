@@ -51,13 +51,16 @@ def filled(rows):
     return b"".join(post(batch(range(first, first + 1000))) for first in range(1, rows + 1, 1000))
 
 
+def rules(numbers, priority):
+    return b"[" + b",".join(b'{"op":"upsert","entity":"rule","id":"%032x","fields":{"name":"R","priority":%d}}' % (number, priority) for number in numbers) + b"]"
+
+
 def time_rows():
     source, before = random.Random(7), None
     for rows in (1_000, 10_000, 100_000):
-        base = filled(rows)
-        numbers = [source.sample(range(1, rows + 1), 1000) for _ in range(20)]
-        changes = b"".join(post(batch(chosen, 200)) for chosen in numbers)
-        cost = (seconds_of(base + changes) - seconds_of(base)) / len(numbers)
+        base = b"".join(post(rules(range(first, first + 1000), 1)) for first in range(1, rows + 1, 1000))
+        changes = b"".join(post(rules(source.sample(range(1, rows + 1), 1000), 2)) for _ in range(100))
+        cost = (seconds_of(base + changes) - seconds_of(base)) / 100
         print("%7d rows: %.2f ms for a batch of 1,000 changes%s" % (rows, cost * 1e3, "" if before is None else ", ratio %.2f" % (cost / before)))
         before = cost
 
