@@ -1,5 +1,14 @@
 //! What the bodies of requests say: their JSON, read as what a request asks for, or the first wrong
 //! place in it.
+//!
+//! # What is promised
+//!
+//! - `read_batch` reads the body of a batch by the crate `serde_json`: the operations that it says,
+//!   `BadJson` exactly where it has no reading, or `BadShape` with a pointer to the first wrong
+//!   place (`answer`). A batch that is read has 1 to 1,000 operations, each with an id, and the
+//!   names of each one's fields ascend.
+//! - Two laws say in words what a pointer names: the first wrong place, and of unknown members the
+//!   least.
 #![tactic(auto)]
 
 mod batch;

@@ -1,4 +1,9 @@
 //! A sorted list of elements that have a key, each key once, with room that can be reserved.
+//!
+//! # What is promised
+//!
+//! - `get` is the look-up of a key, `put` and `remove` are the change of the list at a key.
+//! - `reserve` makes room; `put_in_room` is `put`, takes no memory and can't fail.
 #![tactic(auto)]
 
 ghost use Rattle.std.specs.Prelude.{◌≡◌, ◌≤◌, ◌+◌, ◌-◌, [], IfOk, IfErr, OnOk, OnErr};

@@ -1,5 +1,11 @@
 //! The bodies of replies: JSON (RFC 8259) without spaces, the members of each object in the order of
 //! the bytes of their names.
+//!
+//! # What is promised
+//!
+//! - Each body is exactly the compact text of a JSON value: `done_text`, `row_text`, `seen_text`
+//!   and `rows_text` (which print rows where they stand), `refusal_text` and `fault_text`.
+//! - `refusal_status` and `fault_status` are the statuses. A printed day reads as that day.
 #![tactic(auto)]
 
 mod ascii;

@@ -2,6 +2,27 @@
 //!
 //! A command is one step: it is accepted, and then the rows, the number and what the keeper holds
 //! go on together; or it is refused, and nothing changes.
+//!
+//! # What is promised
+//!
+//! - `ShopState` is the rows behind a keeper, and the number of accepted entries. Its type keeps
+//!   that the rows are sound and that a keeper which tells holds what is kept of them, and the
+//!   number, whatever calls failed (`IsShop`).
+//! - `open_shop` gives the shop of which the keeper gave the bytes (`opens`), names the first
+//!   damage (`cause`), opens what is kept of sound rows always as these (`sound`), and gives the
+//!   keeper back with each error (`content`).
+//! - `commit` is one step (`commits`): Ok exactly where the step accepts, with its rows, the next
+//!   number and its value; `Refused` exactly where the step refuses; `StoreFailed` only where the
+//!   step accepts and the keeper's count of faults rose; and every error leaves rows, number and
+//!   what the keeper holds. One command is built: a batch for the live rows.
+//! - `read_row` answers what a read shows, or the first rule that it breaks (`reading`),
+//!   `read_list` which rows are listed (`listing`); `see_row` and `see_list` lend the same, and
+//!   `answer` is all of these for a request.
+//! - Laws: live rows that are put in place of others stand so (`law_of_live_rows`); histories with
+//!   one entry more, prefixes, their count and soundness (`law_of_one_entry_more`,
+//!   `law_of_prefixes`, `law_of_counting`, `law_of_sound_rows`, the last for commands whose parts
+//!   are in the ranges of their types); and any list of commits is the replay of the accepted ones,
+//!   with at most as many `StoreFailed` as the count rose by (`law_of_the_commits`).
 #![tactic(auto)]
 
 mod answers;

@@ -1,4 +1,15 @@
 //! HTTP/1.1 on a stream of bytes: requests cut off its front, and responses.
+//!
+//! # What is promised
+//!
+//! - `next_request` says of any bytes which request stands at their front, or why none can (`IsNext
+//!   head_cut`), both ways: any head of httparse's grammar with at most 64 fields in 16,384 bytes,
+//!   a body by `Content-Length` up to 1,048,576 bytes, and the refusals of a bad head, a body in
+//!   chunks and one too large, in that order.
+//! - `law_of_the_heads`: what is read as a head is a head of that grammar, both ways.
+//!   `law_of_the_cut`: more bytes never change a settled front, and what isn't settled is short.
+//! - `response` is the bytes of a response (`response_text`), with the phrase of the crate `http`;
+//!   the two fixed responses are the same function's bytes.
 #![tactic(auto)]
 
 mod fields;

@@ -1,4 +1,19 @@
 //! What an operation does to the rows of a view, and which rule it breaks.
+//!
+//! # What is promised
+//!
+//! - The definitions in `specs/` say what an operation and a batch leave of rows, and the first
+//!   rule that is broken (`operated`, `batch`, `live_batch`; `docs/DEFINITIONS.md` has them in
+//!   plain words). The functions here are what these are made of on one row or two; each is proved
+//!   to be its definition.
+//! - `given_to` is the row that an upsert leaves of another: what is given, then the presets.
+//! - `fixed_field` and `missing_required` are the refusals of a row alone, with the field of the
+//!   least name; `first_fixed` and `first_missing` find it without memory.
+//! - `refuse_reference` is the refusal of a reference, by `reference_name` and `lesser_reference`;
+//!   `gives`, `gives_part` and `gives_parent` say what an operation gives.
+//! - `named`, `ties`, `falls_with`, `refers_to`, `holds_back`, `parent_id` and `is_child` say how a
+//!   row stands to another, `stands_at` and `order_of_places` where it stands, `is_twin` whether
+//!   two rows have the same unique fields.
 #![tactic(auto)]
 
 mod given;

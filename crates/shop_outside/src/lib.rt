@@ -4,6 +4,15 @@
 //!
 //! Each call that can fail has a count of faults in its contract. The count never falls, and a call
 //! answers `Failed` only where the count rose, or stands at its last value, 2^64 - 1.
+//!
+//! # What is promised
+//!
+//! - `Source`, `Sink`, `Link`, `Keeper` and `Clock` are met by the objects in memory and by the
+//!   adapters over any reader and writer: `Failed` only where the count rose (`cause`), and a
+//!   failed call gives and takes nothing.
+//! - `Keeper::apply` changes just its keys and the number, all or nothing (`Applied`). A clock
+//!   gives the moments that it tells (`Ticks`).
+//! - The objects in memory fail exactly where they are told to.
 #![tactic(auto)]
 
 mod adapters;

@@ -1,5 +1,17 @@
 //! What a request's line and headers ask for: the nineteen paths of the interface, the parts of a
 //! path, and the four headers that say how a request is answered.
+//!
+//! # What is promised
+//!
+//! - `Routes` are the nineteen paths of the interface, in a router of the crate `matchit`.
+//! - `route` is what a request's line and headers ask for, or the first rule that they break, both
+//!   ways: no route, another method, the first malformed part of the path, the first malformed
+//!   header. It is said over the pieces of the target between its slashes, in words that know
+//!   nothing of the router; and it takes memory only for a text that the answer holds.
+//! - `law_of_the_first_part`: the malformed part that is named is the first that stands in the
+//!   target.
+//! - `asks_later` says of a request, without memory, whether it breaks none of these rules and asks
+//!   for what isn't answered yet.
 #![tactic(auto)]
 
 mod endpoint;

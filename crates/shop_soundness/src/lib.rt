@@ -1,4 +1,16 @@
 //! Laws of operations: what an accepted one keeps of the rows of a view.
+//!
+//! # What is promised
+//!
+//! - The functions here do no work: their contracts are laws on the definitions of
+//!   `shop_operations`.
+//! - `coherent`: what an accepted operation leaves of coherent rows is coherent again, whether or
+//!   not it is replayed, and so is what an accepted batch leaves. Rows are coherent where each
+//!   reference names a row, a node's parent is of its tree, no two rows have the same unique
+//!   fields, no row stands lower than it may, and no limit is passed.
+//! - `formed`: each row is as its entity has it, and rows that operations may not write are just as
+//!   they were.
+//! - `origins`: no row and no value is made up. `start`: a view without rows is coherent.
 #![tactic(auto)]
 
 ghost use Rattle.shop_soundness.specs.Coherence.{NoRowsAreCoherent, OperationsKeepCoherence, BatchesKeepCoherence};

@@ -1,4 +1,20 @@
 //! What operations on rows change, and when they are refused.
+//!
+//! # What is promised
+//!
+//! - `View` is what an operation sees: each of its look-ups is the part of one list that it stands
+//!   for. The live rows of a shop are a view, and so are live rows while a batch changes them
+//!   (`Growing`).
+//! - `plan_op` answers the changes of one operation, which are those of its definition over every
+//!   view, or the first rule that the operation breaks (`Planned`, over `operated`), both ways. An
+//!   upsert asks that the view is coherent, as an accepted batch leaves it.
+//! - `reach` answers what an operation would leave, take out and empty (`IsReach`).
+//! - `plan` does a batch over the live rows, all or none, and numbers a refusal from 1
+//!   (`PlansBatch`, over `live_batch`): the changes make the live rows what the operations leave,
+//!   and leave the rows of drafts; their keys are live and ascend, and each row stands under its
+//!   key.
+//! - `shop_core` calls `plan`; the other two are there for merges. That nothing walks over all rows
+//!   is how it is written; no clause speaks of it.
 #![tactic(auto)]
 
 mod batch;
