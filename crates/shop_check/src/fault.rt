@@ -7,7 +7,7 @@ use shop_defs::{Key, NoMemory};
 use std::alloc::{AllocError, AllocFailed};
 
 /// A rule on what is kept, in the order in which the rules are tried.
-#[derive(Debug, Drop, Clone, Copy, PartialEq, Eq)]
+#[derive(Drop, Clone, Copy)]
 pub enum Rule {
     /// The key is above the one before it.
     Order,
@@ -50,7 +50,7 @@ impl Rule {
 }
 
 /// Why there are no rows.
-#[derive(Debug, Drop, Clone, Copy, PartialEq, Eq)]
+#[derive(Drop, Clone, Copy)]
 pub enum CheckFault {
     /// What is kept is damaged.
     Damaged {

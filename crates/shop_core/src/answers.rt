@@ -11,7 +11,7 @@ use shop_defs::{
 };
 
 /// A command is done.
-#[derive(Debug, Drop, Clone, Copy, PartialEq, Eq)]
+#[derive(Drop, Clone, Copy)]
 pub struct Done {
     /// The number of its entry: entries are counted on from the number that the keeper held.
     pub front: u64,
@@ -20,7 +20,7 @@ pub struct Done {
 }
 
 /// Why a command is not done.
-#[derive(Debug, Drop)]
+#[derive(Drop)]
 pub enum CommitFault {
     /// It breaks a rule.
     Refused(Refused),
@@ -39,7 +39,7 @@ impl From<NoMemory> for CommitFault {
 }
 
 /// Why no shop was opened.
-#[derive(Debug, Drop)]
+#[derive(Drop)]
 pub enum OpenFault {
     /// What the keeper holds is no shop.
     Damaged {
@@ -55,7 +55,7 @@ pub enum OpenFault {
 }
 
 /// A row, and what is shown beside its own fields.
-#[derive(Debug, Drop)]
+#[derive(Drop)]
 pub struct RowReply {
     /// The row.
     pub row: Row,
@@ -66,7 +66,7 @@ pub struct RowReply {
 }
 
 /// A row, and what is shown beside its own fields, lent by the rows.
-#[derive(Debug, Drop)]
+#[derive(Drop)]
 pub struct RowSeen<'a> {
     /// The row.
     pub row: &'a Row,
@@ -75,7 +75,7 @@ pub struct RowSeen<'a> {
 }
 
 /// Why a row is not shown.
-#[derive(Debug, Drop)]
+#[derive(Drop)]
 pub enum AskFault {
     /// The read breaks a rule.
     Refused(Broken),
@@ -92,7 +92,7 @@ impl From<NoMemory> for AskFault {
 }
 
 /// What a shop is asked.
-#[derive(Debug, Drop)]
+#[derive(Drop)]
 pub enum Request {
     /// To carry out a command.
     Write(Command),
@@ -110,7 +110,7 @@ pub enum Request {
 }
 
 /// What a shop answers.
-#[derive(Debug, Drop)]
+#[derive(Drop)]
 pub enum Reply {
     /// The command is done.
     Done(Done),

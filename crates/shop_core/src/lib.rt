@@ -29,11 +29,7 @@ mod answers;
 mod laws;
 mod plan;
 mod read;
-#[cfg(test)]
-mod read_tests;
 mod state;
-#[cfg(test)]
-mod tests;
 
 pub use answers::{AskFault, CommitFault, Done, OpenFault, Reply, Request, RowReply, RowSeen};
 pub use laws::{

@@ -27,8 +27,3 @@ mod searches;
 mod topic;
 
 pub use rows::Rows;
-
-#[cfg(test)]
-mod lookup_tests;
-#[cfg(test)]
-mod tests;

@@ -12,7 +12,7 @@ use std::cmp::Ordering;
 /// What a row is found by, beside its key.
 ///
 /// `Eq` and `Ord` compare the parts in turn, and what a row refers to comes before fingerprints.
-#[derive(Debug, Drop, Clone, Copy)]
+#[derive(Drop, Clone, Copy)]
 pub(crate) enum Topic {
     /// In that version, the row refers to the row of that entity with that id, by a reference that
     /// a delete looks at.
@@ -90,7 +90,7 @@ impl Ord for Topic {
 }
 
 /// That the row with the key is found by the topic.
-#[derive(Debug, Drop, Clone, Copy, PartialEq, Eq, PartialOrd, Ord)]
+#[derive(Drop, Clone, Copy, PartialEq, Eq, PartialOrd, Ord)]
 pub(crate) struct Mention {
     pub(crate) topic: Topic,
     pub(crate) key: Key,

@@ -17,7 +17,7 @@ use shop_defs::{Key, List, NoMemory, Op, OpKind, Row};
 use std::alloc::Global;
 
 /// What an operation would leave, take out and empty. Keys have the view's version.
-#[derive(Debug, Drop)]
+#[derive(Drop)]
 pub struct Reached {
     /// The row that an upsert would leave, with its presets: `None` for a delete.
     pub left: Option<Row>,

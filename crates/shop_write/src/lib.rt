@@ -18,12 +18,8 @@
 #![tactic(auto)]
 
 mod batch;
-#[cfg(test)]
-mod batch_tests;
 mod cycle;
 mod delete;
-#[cfg(test)]
-mod delete_tests;
 mod depth;
 mod duplicate;
 mod effects;

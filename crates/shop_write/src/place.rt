@@ -10,7 +10,7 @@ use std::marker::Model;
 
 /// Where a row stands, whatever its version. Places are ordered by the number of the entity, by id
 /// and by second part.
-#[derive(Debug, Drop, Clone, Copy, PartialEq, Eq, PartialOrd, Ord)]
+#[derive(Drop, Clone, Copy, PartialEq, Eq, PartialOrd, Ord)]
 pub(crate) struct Place {
     pub(crate) entity: Entity,
     pub(crate) id: u128,
