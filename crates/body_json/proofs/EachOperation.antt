@@ -1,7 +1,7 @@
 -- What follows for each operation of a batch.
 use Rattle.std.proofs.Common.{List, [], ◌∷◌}
 use Rattle.std.specs.List.{AllByRecursion}
-use Rattle.shop_defs.specs.declared.op.RawOp.{RawOp}
+use Rattle.shop_requests.specs.declared.raw.RawOp.{RawOp}
 use Rattle.body_json.specs.WellFormed.{IsWellFormed, HaveIds, HaveAscendingNames}
 
 pub have_ids : (ops : List RawOp) → AllByRecursion IsWellFormed ops → HaveIds ops

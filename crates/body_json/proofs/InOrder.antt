@@ -5,8 +5,8 @@ use Rattle.serde_json.specs.Data.{Items, no_items, item, Members}
 use Rattle.serde_json.specs.Events.{items_len}
 use Rattle.serde_json.specs.Find.{as_array, as_object}
 use Rattle.shop_defs.specs.declared.op.OpKind.{OpKind}
-use Rattle.shop_defs.specs.declared.op.RawOp.{RawOp}
-use Rattle.shop_defs.specs.Operations.{Given}
+use Rattle.shop_requests.specs.declared.raw.RawOp.{RawOp}
+use Rattle.shop_requests.specs.Operations.{Given}
 use Rattle.body_json.specs.FirstPlaces.{first, places, wrong_in_element, wrong_in_elements, wrong_in_list, TheFirstIsNamed}
 use Rattle.body_json.specs.Pointers.{member_pointer}
 use Rattle.body_json.specs.Shapes.{kind_in, entity_in, id_in, second_in, fields_in, names, unknown, operation, element_of, element, elements, and_then, batch, batch_of, is_count}

@@ -10,7 +10,7 @@ use Rattle.json.specs.Lex.{tokens}
 use Rattle.serde_json.specs.Data.{Data, null, boolean, number, string, array, object, Items, no_items, item, Members, no_members, member, put}
 use Rattle.serde_json.specs.Find.{as_array, get_item}
 use Rattle.serde_json.specs.Read.{of_json, of_items, of_members, number_of, max_depth}
-use Rattle.shop_defs.specs.Operations.{Given, lesser}
+use Rattle.shop_requests.specs.Operations.{Given, lesser}
 use Rattle.body_json.specs.FirstPlaces.{is_other, TheLeastIsNamed}
 use Rattle.body_json.specs.WellFormed.{NamesAscend}
 use Rattle.body_json.specs.Shapes.{given, unknown}

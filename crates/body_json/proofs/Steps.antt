@@ -3,7 +3,7 @@ use Rattle.std.proofs.Common.{◌≡◌, ℕ, List, codes, Option, Some, None, o
 use Rattle.serde_json.specs.Data.{Members}
 use Rattle.shop_defs.specs.declared.op.OpKind.{OpKind}
 use Rattle.shop_defs.specs.declared.op.OpKind.TheVariants.{Upsert, Delete}
-use Rattle.shop_defs.specs.Operations.{Given}
+use Rattle.shop_requests.specs.Operations.{Given}
 use Rattle.body_json.specs.declared.fault.BodyFault.{BodyFault}
 use Rattle.body_json.specs.declared.fault.BodyFault.TheVariants.{BadJson, BadShape, NoMemory}
 use Rattle.body_json.specs.LeftMembers.{without, without_fields}

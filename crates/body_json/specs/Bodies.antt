@@ -2,7 +2,7 @@
 use Rattle.std.specs.Prelude.{◌≡◌, ℕ, List, Some, Result, Ok, Err, IsUtf8}
 use Rattle.serde_json.specs.Data.{Data}
 use Rattle.serde_json.specs.Read.{read}
-use Rattle.shop_defs.specs.declared.op.RawOp.{RawOp}
+use Rattle.shop_requests.specs.declared.raw.RawOp.{RawOp}
 use Rattle.body_json.specs.Shapes.{batch}
 use Rattle.body_json.specs.declared.fault.BodyFault.{BodyFault}
 use Rattle.body_json.specs.declared.fault.BodyFault.TheVariants.{BadJson, BadShape, NoMemory}

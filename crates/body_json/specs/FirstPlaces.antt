@@ -6,7 +6,7 @@ use Rattle.std.specs.Str.{bytes_eq}
 use Rattle.serde_json.specs.Data.{Data, object, Items, no_items, item, Members}
 use Rattle.serde_json.specs.Events.{items_len}
 use Rattle.serde_json.specs.Find.{as_array, as_object, get_item}
-use Rattle.shop_defs.specs.Operations.{Given, least_name}
+use Rattle.shop_requests.specs.Operations.{Given, least_name}
 use Rattle.body_json.specs.Bodies.{Reads}
 use Rattle.body_json.specs.Pointers.{element_pointer, member_pointer}
 use Rattle.body_json.specs.Shapes.{kind_in, entity_in, id_in, second_in, fields_in, names, unknown, given, is_count, batch}

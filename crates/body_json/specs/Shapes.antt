@@ -7,11 +7,11 @@ use Rattle.serde_json.specs.Events.{items_len}
 use Rattle.serde_json.specs.Find.{get_member, as_str, as_array, as_object}
 use Rattle.shop_defs.specs.declared.op.OpKind.{OpKind}
 use Rattle.shop_defs.specs.declared.op.OpKind.TheVariants.{Upsert, Delete}
-use Rattle.shop_defs.specs.declared.op.RawOp.{RawOp}
-use Rattle.shop_defs.specs.declared.value.Raw.{Raw}
-use Rattle.shop_defs.specs.declared.value.Raw.TheVariants as R
-use Rattle.shop_defs.specs.Ids.{id_of}
-use Rattle.shop_defs.specs.Operations.{Given}
+use Rattle.shop_requests.specs.declared.raw.RawOp.{RawOp}
+use Rattle.shop_requests.specs.declared.raw.Raw.{Raw}
+use Rattle.shop_requests.specs.declared.raw.Raw.TheVariants as R
+use Rattle.shop_requests.specs.Ids.{id_of}
+use Rattle.shop_requests.specs.Operations.{Given}
 use Rattle.body_json.specs.Pointers.{element_pointer, member_pointer}
 
 -- ---- what is given for a field

@@ -4,8 +4,8 @@ use Rattle.std.specs.List.{AllByRecursion}
 use Rattle.std.specs.List.Sorted.{IsStrictlySortedBy}
 use Rattle.std.specs.Cmp.Lexicographic.{slice_cmp}
 use Rattle.std.specs.Ordering.{nat_cmp}
-use Rattle.shop_defs.specs.declared.op.RawOp.{RawOp}
-use Rattle.shop_defs.specs.Operations.{Given}
+use Rattle.shop_requests.specs.declared.raw.RawOp.{RawOp}
+use Rattle.shop_requests.specs.Operations.{Given}
 
 -- a batch has 1 to 1,000 operations
 abbrev pub IsCount : ℕ → Type 0

@@ -12,7 +12,8 @@ use crate::element::read_element;
 use crate::fault::{BodyFault, wrong_body};
 use crate::room::with_room;
 use serde_json::{Category, Value};
-use shop_defs::{List, RawOp};
+use shop_defs::List;
+use shop_requests::RawOp;
 use std::alloc::Global;
 
 /// How many operations a batch has at most.

@@ -9,7 +9,8 @@ use crate::fault::{BodyFault, wrong_element, wrong_member};
 use crate::fields::take_fields;
 use crate::members::{read_kind, read_row_id, read_second, take_text, unknown_member};
 use serde_json::{Map, Value};
-use shop_defs::{RawOp, Txt};
+use shop_defs::Txt;
+use shop_requests::RawOp;
 use std::alloc::Global;
 
 /// The operation that the members of the element with that number make.

@@ -6,7 +6,7 @@ use shop_defs::{NoMemory, Txt};
 use std::alloc::{AllocError, Global};
 
 /// Why a body is not what its request asks for.
-#[derive(Debug, Drop, PartialEq, Eq)]
+#[derive(Drop)]
 pub enum BodyFault {
     /// The body is no JSON: it isn't UTF-8, breaks the grammar, nests deeper than 127 levels, or has
     /// a number that no float holds.

@@ -8,7 +8,8 @@ ghost use Rattle.body_json.specs.WellFormed.{NamesAscend};
 use crate::members::take;
 use crate::room::with_room;
 use serde_json::{Map, Number, Value};
-use shop_defs::{List, NoMemory, OpKind, Raw, Txt};
+use shop_defs::{List, NoMemory, OpKind, Txt};
+use shop_requests::Raw;
 use std::alloc::Global;
 
 /// A number as it is given: whole only where it is written without a point and an exponent, and no

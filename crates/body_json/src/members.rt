@@ -8,7 +8,8 @@ ghost use Rattle.body_json.specs.Shapes.{names, kind_in, id_in, second_in, id_of
 ghost use Rattle.body_json.specs.LeftMembers.{without};
 
 use serde_json::{Map, Value};
-use shop_defs::{OpKind, read_id};
+use shop_defs::OpKind;
+use shop_requests::read_id;
 
 /// The member with that name.
 fn member<'v>(members: &'v Map<String, Value>, name: &str) -> Option<&'v Value>

@@ -1,7 +1,8 @@
 //! What bodies read as. In the tables `@` stands for the digits of the id 10.
 use crate::fault::BodyFault;
 use crate::{MOST_OPERATIONS, read_batch};
-use shop_defs::{List, RawOp};
+use shop_defs::List;
+use shop_requests::RawOp;
 use std::alloc::{AllocError, Global};
 use std::test::Fail;
 

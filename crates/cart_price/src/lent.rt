@@ -5,7 +5,7 @@
 use shop_defs::{List, Row};
 
 /// A line of a cart with the rows that its price is made of.
-#[derive(Debug, Drop)]
+#[derive(Drop)]
 pub struct LentLine<'a> {
     /// The row of the line.
     pub line: &'a Row,
@@ -27,7 +27,7 @@ pub struct LentLine<'a> {
 }
 
 /// A promotion and what it takes off.
-#[derive(Debug, Drop)]
+#[derive(Drop)]
 pub struct LentPromotion<'a> {
     /// The row of the promotion.
     pub promotion: &'a Row,
@@ -36,7 +36,7 @@ pub struct LentPromotion<'a> {
 }
 
 /// A cart with the rows that its prices are made of.
-#[derive(Debug, Drop)]
+#[derive(Drop)]
 pub struct CartData<'a> {
     /// The row of the cart.
     pub cart: &'a Row,

@@ -77,7 +77,7 @@ pub struct TaxSum {
 }
 
 /// What keeps a cart from being ordered.
-#[derive(Debug, Drop, PartialEq, Eq)]
+#[derive(Drop)]
 pub struct Block {
     /// The name of what stands in the way, as `no_price`.
     pub cause: Txt,
@@ -86,7 +86,7 @@ pub struct Block {
 }
 
 /// A cart with its prices.
-#[derive(Debug, Drop, PartialEq, Eq)]
+#[derive(Drop)]
 pub struct PricedCart {
     /// How many pieces the lines with a price have together.
     pub count: i64,
@@ -115,7 +115,7 @@ pub struct PricedCart {
 }
 
 /// A cart whose prices no longer change.
-#[derive(Debug, Drop, PartialEq, Eq)]
+#[derive(Drop)]
 pub struct Settled {
     /// The cart.
     pub cart: PricedCart,

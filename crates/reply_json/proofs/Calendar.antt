@@ -10,8 +10,9 @@ use Rattle.jiff_core.proofs.DateLemmas.{epoch_day_injective, days_from_civil-day
 use Rattle.jiff_core.proofs.SignedLemmas.{signed_arith}
 use Rattle.jiff_core.proofs.StandardFacts.{known_days}
 use Rattle.jiff_fmt.specs.Text.{date_text}
-use Rattle.shop_defs.specs.Days.{day_of, is_day_number}
-use Rattle.shop_defs.proofs.DayRange.{number_bounds, number_of_date}
+use Rattle.shop_requests.specs.Days.{day_of}
+use Rattle.shop_defs.specs.Days.{is_day_number}
+use Rattle.shop_requests.proofs.DayRange.{number_bounds, number_of_date}
 use Rattle.reply_json.proofs.DayReads.{parts_read}
 use Rattle.reply_json.specs.DayTexts.{CalendarDay, next_day, day_after, day_text}
 

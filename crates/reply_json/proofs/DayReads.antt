@@ -1,7 +1,7 @@
 -- The text of a year, a month and a day reads as these.
 use Rattle.std.proofs.Common.{◌≡◌, ℕ, ◌+◌, ◌/◌, ◌%◌, ◌<◌, ◌≤◌, true, Some, ◌++◌, refl, ap, arith}
 use Rattle.std.proofs.lemmas.Bool.Decides.{nat_tests}
-use Rattle.shop_defs.specs.Days.{is_digit, digits_number, day_number, day_of, two_digits, parts_text}
+use Rattle.shop_requests.specs.Days.{is_digit, digits_number, day_number, day_of, two_digits, parts_text}
 
 is_one : (k : ℕ) → k < 10 → is_digit (48 + k) ≡ true
 is_one k small = grind (arith, nat_tests)

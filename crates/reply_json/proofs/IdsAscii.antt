@@ -4,7 +4,7 @@ use Rattle.std.proofs.lemmas.Bool.Decides.{nat_tests}
 use Rattle.std.proofs.lemmas.Str.{IsAscii-append, IsUtf8-from_ascii}
 use Rattle.std.proofs.lemmas.Str.Ascii.{IsAscii-nil}
 use Rattle.std.specs.Str.{IsAscii, IsUtf8}
-use Rattle.shop_defs.specs.Ids.{hex_digit, hex_digits, id_text}
+use Rattle.shop_requests.specs.Ids.{hex_digit, hex_digits, id_text}
 
 one_byte : (byte : ℕ) → byte < 128 → IsAscii (byte ∷ [])
 one_byte byte small zero = small

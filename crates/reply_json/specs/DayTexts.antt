@@ -1,7 +1,7 @@
 -- Days as texts `YYYY-MM-DD`.
 use Rattle.std.specs.Prelude.{ℕ, zero, suc, ◌+◌, ℤ, pos, negsuc, List, [], nat_lt, if◌then◌else◌}
 use Rattle.jiff_core.specs.Calendar.{days_in_month}
-use Rattle.shop_defs.specs.Days.{parts_text}
+use Rattle.shop_requests.specs.Days.{parts_text}
 
 -- a day of the calendar
 pub record CalendarDay : Type 0 where

@@ -3,8 +3,8 @@ use Rattle.std.specs.Prelude.{ℕ, List, [], ◌∷◌, codes}
 use Rattle.json.specs.Token.{Token, begin_object, end_object, key}
 use Rattle.json.specs.Token as token
 use Rattle.serde_json.specs.Data.{Data, string}
-use Rattle.shop_defs.specs.declared.line_fault.LineFault.{LineFault}
-use Rattle.shop_defs.specs.declared.line_fault.LineFault.TheVariants as F
+use Rattle.shop_requests.specs.declared.line_fault.LineFault.{LineFault}
+use Rattle.shop_requests.specs.declared.line_fault.LineFault.TheVariants as F
 use Rattle.reply_json.specs.Objects.{object_of}
 
 -- the name of a fault

@@ -1,7 +1,7 @@
 -- Keys as texts.
 use Rattle.std.specs.Prelude.{ℕ, ◌==◌, List, [], ◌++◌, codes, if◌then◌else◌}
 use Rattle.shop_defs.specs.declared.key.Key.{Key}
-use Rattle.shop_defs.specs.Ids.{id_text}
+use Rattle.shop_requests.specs.Ids.{id_text}
 use Rattle.shop_defs.specs.Texts.{entity_text}
 
 -- a number of a key behind a mark, where it isn't 0

@@ -4,7 +4,7 @@ use Rattle.std.specs.List.{fold}
 use Rattle.serde_json.specs.Data.{Data, number, string, object, unsigned, no_members, put}
 use Rattle.serde_json.specs.Find.{of_integer}
 use Rattle.shop_defs.specs.declared.key.Key.{Key}
-use Rattle.shop_defs.specs.Ids.{id_text}
+use Rattle.shop_requests.specs.Ids.{id_text}
 use Rattle.reply_json.specs.KeyTexts.{key_text}
 
 -- an object with these members, in the order of the bytes of their names; of two with one name it has the later

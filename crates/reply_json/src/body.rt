@@ -3,7 +3,7 @@ ghost use Rattle.std.specs.Prelude.{◌≡◌, [], ◌∷◌, ◌++◌, decimal,
 ghost use Rattle.std.specs.Fmt.{signed_decimal};
 ghost use Rattle.json.specs.Token.{begin_object, end_object, begin_array, end_array, key, string, number, boolean, null};
 ghost use Rattle.json.specs.Print.{print};
-ghost use Rattle.shop_defs.specs.Ids.{id_text};
+ghost use Rattle.shop_requests.specs.Ids.{id_text};
 ghost use Rattle.serde_json.specs.Data as json;
 ghost use Rattle.reply_json.specs.KeyTexts.{key_text};
 ghost use Rattle.reply_json.specs.Objects.{count_data, number_data, id_data, key_data};
@@ -13,7 +13,8 @@ use crate::ascii::as_text;
 use crate::keys::key_text;
 use itoa::Buffer;
 use json::Writer;
-use shop_defs::{Key, List, NoMemory, print_id};
+use shop_defs::{Key, List, NoMemory};
+use shop_requests::print_id;
 use std::alloc::Global;
 use std::marker::Model;
 

@@ -1,6 +1,7 @@
 //! Days as texts `YYYY-MM-DD` (ISO 8601).
 ghost use Rattle.std.specs.Prelude.{◌≡◌, IsTrue, Some};
-ghost use Rattle.shop_defs.specs.Days.{day_of, is_day_number};
+ghost use Rattle.shop_requests.specs.Days.{day_of};
+ghost use Rattle.shop_defs.specs.Days.{is_day_number};
 ghost use Rattle.reply_json.specs.DayTexts as spec;
 
 use arrayvec::ArrayString;

@@ -7,7 +7,8 @@ ghost use Rattle.reply_json.specs.Objects.{object_of};
 ghost use Rattle.reply_json.specs.Tokens.{value_tokens};
 
 use crate::body::Body;
-use shop_defs::{LineFault, List, NoMemory, Txt};
+use shop_defs::{List, NoMemory, Txt};
+use shop_requests::LineFault;
 use std::alloc::Global;
 
 /// The body that says what is wrong with a request: `{"error":NAME}`, and in a member of its own the

@@ -1,12 +1,13 @@
 //! Keys as texts.
 ghost use Rattle.std.specs.Prelude.{◌≡◌, ◌++◌, ◌+◌, ◌≤◌, length};
 ghost use Rattle.arrayvec.specs.ArrayString.{array_string_len};
-ghost use Rattle.shop_defs.specs.Ids.{id_text};
+ghost use Rattle.shop_requests.specs.Ids.{id_text};
 ghost use Rattle.reply_json.specs.KeyTexts as spec;
 
 use crate::ascii::as_text;
 use arrayvec::ArrayString;
-use shop_defs::{Key, entity_name, print_id};
+use shop_defs::{Key, entity_name};
+use shop_requests::print_id;
 
 /// No key's text is longer than that, in bytes: 20 for the entity, and 33 for each number and its
 /// mark.

@@ -3,7 +3,8 @@
 use crate::{
     done_text, fault_status, fault_text, refusal_status, refusal_text, row_text, rows_text,
 };
-use shop_defs::{Broken, Entity, Key, LineFault, List, NoMemory, Refused, Row, Txt, Value};
+use shop_defs::{Broken, Entity, Key, List, NoMemory, Refused, Row, Txt, Value};
+use shop_requests::LineFault;
 use sqlite_items::Boxed;
 use std::alloc::Global;
 use std::process::Abort;

@@ -14,7 +14,7 @@ use shop_defs::{Entity, FieldName, Key, Look, Row, Value};
 use std::marker::Model;
 
 /// A name with the value that is shown for it.
-#[derive(Debug, Drop, Clone, Copy)]
+#[derive(Drop, Clone, Copy)]
 pub struct ShownValue<'a> {
     /// The name of the field.
     pub name: FieldName,
@@ -24,7 +24,7 @@ pub struct ShownValue<'a> {
 
 /// What is shown beside a row: names with their values, in the order of the names' bytes. Contracts
 /// see the list of these.
-#[derive(Debug, Drop)]
+#[derive(Drop)]
 pub struct Shown<'a> {
     values: [ShownValue<'a>; 8],
     len: usize,

@@ -6,14 +6,14 @@ use Rattle.std.proofs.lemmas.Bool.{eq-eqb}
 use Rattle.closure.specs.Closure.{IsIn}
 use Rattle.closure.proofs.Members.{in_filter, of_filter}
 use Rattle.shop_defs.specs.declared.key.Key.{Key}
-use Rattle.shop_defs.specs.declared.op.RawOp.{RawOp}
+use Rattle.shop_requests.specs.declared.raw.RawOp.{RawOp}
 use Rattle.shop_defs.specs.declared.row.Row.{Row}
 use Rattle.shop_defs.specs.Fitting.{is_writable}
 use Rattle.shop_defs.specs.Keys.{key_cmp}
 use Rattle.shop_defs.specs.Rows.{row_key, IsInKeyOrder}
 use Rattle.shop_defs.proofs.Keys.{key_cmp_total}
 use Rattle.shop_kept.specs.Spelling.{IsKeptRow}
-use Rattle.shop_operations.specs.Batches.{live_batch}
+use Rattle.shop_soundness.specs.Batches.{live_batch}
 use Rattle.shop_operations.specs.References.{is_live, live}
 use Rattle.shop_operations.specs.Soundness.{IsCoherent}
 use Rattle.shop_operations.specs.Upserts.{place_cmp}

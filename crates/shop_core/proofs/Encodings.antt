@@ -16,27 +16,28 @@ use Rattle.shop_defs.specs.declared.broken.Broken.{Broken}
 use Rattle.shop_defs.specs.declared.entity.Entity.{Entity}
 use Rattle.shop_defs.specs.declared.entity.Entity.TheVariants as E
 use Rattle.shop_defs.specs.declared.op.Op.{Op}
-use Rattle.shop_defs.specs.declared.op.RawOp.{RawOp}
+use Rattle.shop_requests.specs.declared.raw.RawOp.{RawOp}
 use Rattle.shop_defs.specs.declared.row.Row.{Row}
 use Rattle.shop_defs.specs.declared.table.EntityInfo.{EntityInfo}
 use Rattle.shop_defs.specs.declared.table.FieldInfo.{FieldInfo}
 use Rattle.shop_defs.specs.declared.table.FieldKind.{FieldKind}
 use Rattle.shop_defs.specs.declared.table.FieldKind.TheVariants as K
-use Rattle.shop_defs.specs.declared.value.Raw.{Raw}
-use Rattle.shop_defs.specs.declared.value.Raw.TheVariants as R
+use Rattle.shop_requests.specs.declared.raw.Raw.{Raw}
+use Rattle.shop_requests.specs.declared.raw.Raw.TheVariants as R
 use Rattle.shop_defs.specs.declared.value.Value.{Value}
 use Rattle.shop_defs.specs.declared.value.Value.TheVariants as V
-use Rattle.shop_defs.specs.Checks.{fits, kept}
+use Rattle.shop_requests.specs.Checks.{kept}
+use Rattle.shop_defs.specs.Checks.{fits}
 use Rattle.shop_defs.specs.Fitting.{field_fits, line_fits}
-use Rattle.shop_defs.specs.Ids.{id_of}
-use Rattle.shop_defs.specs.Days.{day_of}
-use Rattle.shop_defs.specs.Operations.{Given, given, read_in, read, refusal, unless_refused, if_writable, reading_as, reading}
+use Rattle.shop_requests.specs.Ids.{id_of}
+use Rattle.shop_requests.specs.Days.{day_of}
+use Rattle.shop_requests.specs.Operations.{Given, given, read_in, read, refusal, unless_refused, if_writable, reading_as, reading}
 use Rattle.shop_defs.specs.Presets.{preset_of}
 use Rattle.shop_defs.specs.Tables.{fields_of, number_in, info_named}
 use Rattle.shop_defs.specs.Texts.{field_text}
-use Rattle.shop_defs.proofs.IdTexts.{id_fits}
+use Rattle.shop_requests.proofs.IdTexts.{id_fits}
 use Rattle.shop_kept.specs.Spelling.{FitsValue, FitsField, IsValue, IsField, IsKeptRow, AreOps}
-use Rattle.shop_operations.specs.Batches.{live_batch}
+use Rattle.shop_soundness.specs.Batches.{live_batch}
 use Rattle.shop_operations.specs.References.{live}
 use Rattle.shop_operations.specs.Views.{live_view}
 use Rattle.shop_soundness.specs.Origins.{HadField, IsGivenIn, IsPreset}

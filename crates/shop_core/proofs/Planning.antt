@@ -9,17 +9,17 @@ use Rattle.std.proofs.lemmas.Int.{ints}
 use Rattle.keyed.specs.Keyed.{without}
 use Rattle.closure.specs.Closure.{IsIn}
 use Rattle.closure.proofs.Members.{in_filter, of_filter}
-use Rattle.shop_defs.specs.declared.command.Command.{Command}
-use Rattle.shop_defs.specs.declared.command.Command.TheVariants as commands
+use Rattle.shop_requests.specs.declared.command.Command.{Command}
+use Rattle.shop_requests.specs.declared.command.Command.TheVariants as commands
 use Rattle.shop_defs.specs.declared.key.Key.{Key}
-use Rattle.shop_defs.specs.declared.op.RawOp.{RawOp}
+use Rattle.shop_requests.specs.declared.raw.RawOp.{RawOp}
 use Rattle.shop_defs.specs.declared.row.Row.{Row}
 use Rattle.shop_defs.specs.Joined.{Change, change_key, change_at}
 use Rattle.shop_defs.specs.Keys.{key_cmp}
 use Rattle.shop_defs.specs.Rows.{row_key, row_at, change_row, change_rows, IsInKeyOrder}
 use Rattle.shop_defs.proofs.Keys.{key_cmp_total}
 use Rattle.shop_kept.specs.Spelling.{FitsRow, IsKeptRow}
-use Rattle.shop_operations.specs.Batches.{live_batch}
+use Rattle.shop_soundness.specs.Batches.{live_batch}
 use Rattle.shop_operations.specs.References.{is_live, live}
 use Rattle.shop_rows.specs.Changing.{row_after, StandsUnderItsKey, StandUnderTheirKeys, HasAscendingKeys}
 use Rattle.shop_rows.proofs.ChangedRows.{in_order-change_rows, row_at-change_rows, last_in-ascending}

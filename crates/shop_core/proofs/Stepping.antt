@@ -3,7 +3,7 @@ use Rattle.std.proofs.Common.{◌≡◌, ℕ, ℤ, ◌<◌, ◌≤◌, cond, Boo
 use Rattle.std.specs.Int.RustNames.{FitsSigned}
 use Rattle.std.proofs.lemmas.Int.{to_z-of_z}
 use Rattle.std.proofs.lemmas.Bool.{lt-ltb, le-ltb}
-use Rattle.shop_defs.specs.declared.command.Command.{Command}
+use Rattle.shop_requests.specs.declared.command.Command.{Command}
 use Rattle.shop_defs.specs.declared.refused.Refused.{Refused}
 use Rattle.shop_defs.specs.declared.row.Row.{Row}
 use Rattle.shop_core.specs.Steps.{Stepped, accepted, refused, unbuilt, effect, counted, step, most_entries, history_full}

@@ -1,6 +1,6 @@
 -- What a commit answers and leaves, and what many of them do.
 use Rattle.std.specs.Prelude.{ℕ, ℤ, ◌≡◌, ◌+◌, ◌-◌, ◌≤◌, ◌<◌, ◌^◌, Bool, true, false, List, [], ◌∷◌, map, filter, length, is_some, Result, Ok, Err, OnErr}
-use Rattle.shop_defs.specs.declared.command.Command.{Command}
+use Rattle.shop_requests.specs.declared.command.Command.{Command}
 use Rattle.shop_outside.specs.Causes.{Rose}
 use Rattle.shop_core.specs.declared.answers.Done.{Done}
 use Rattle.shop_core.specs.declared.answers.CommitFault.{CommitFault}

@@ -1,7 +1,7 @@
 -- The history of a shop: the commands that were accepted, one after the other.
 use Rattle.std.specs.Prelude.{ℕ, ℤ, ◌≡◌, ◌==◌, ◌+◌, ◌-◌, ◌≤◌, ◌++◌, ◌↔◌, List, [], ◌∷◌, length, filter, take}
 use Rattle.std.specs.List.{fold, AllByRecursion}
-use Rattle.shop_defs.specs.declared.command.Command.{Command}
+use Rattle.shop_requests.specs.declared.command.Command.{Command}
 use Rattle.shop_defs.specs.declared.row.Row.{Row}
 use Rattle.shop_check.specs.Soundness.{AreSound}
 use Rattle.shop_core.specs.Ranges.{IsInRange}

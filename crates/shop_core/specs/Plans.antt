@@ -4,7 +4,7 @@ use Rattle.std.specs.Option.{option_map, IfSome}
 use Rattle.std.specs.Int.{w64}
 use Rattle.std.specs.Int.RustNames.{FitsSigned}
 use Rattle.std.specs.List.{AllByRecursion}
-use Rattle.shop_defs.specs.declared.command.Command.{Command}
+use Rattle.shop_requests.specs.declared.command.Command.{Command}
 use Rattle.shop_defs.specs.declared.delta.Delta.{Delta}
 use Rattle.shop_defs.specs.declared.refused.PlanFault.{PlanFault}
 use Rattle.shop_defs.specs.declared.refused.PlanFault.TheVariants as planning

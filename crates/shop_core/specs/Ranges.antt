@@ -4,11 +4,11 @@ use Rattle.std.specs.Int.{w64}
 use Rattle.std.specs.Int.RustNames.{FitsSigned}
 use Rattle.std.specs.List.{AllByRecursion}
 use Rattle.std.specs.Str.{is_utf8}
-use Rattle.shop_defs.specs.declared.command.Command.{Command}
-use Rattle.shop_defs.specs.declared.command.Command.TheVariants as commands
-use Rattle.shop_defs.specs.declared.op.RawOp.{RawOp}
-use Rattle.shop_defs.specs.declared.value.Raw.{Raw}
-use Rattle.shop_defs.specs.declared.value.Raw.TheVariants as R
+use Rattle.shop_requests.specs.declared.command.Command.{Command}
+use Rattle.shop_requests.specs.declared.command.Command.TheVariants as commands
+use Rattle.shop_requests.specs.declared.raw.RawOp.{RawOp}
+use Rattle.shop_requests.specs.declared.raw.Raw.{Raw}
+use Rattle.shop_requests.specs.declared.raw.Raw.TheVariants as R
 
 abbrev pub IsRaw : Raw → Type 0
 IsRaw R.Null = Unit {0}

@@ -7,11 +7,11 @@ use Rattle.shop_defs.specs.declared.broken.Broken.TheVariants as B
 use Rattle.shop_defs.specs.declared.entity.Entity.{Entity}
 use Rattle.shop_defs.specs.declared.entity.Entity.TheVariants as E
 use Rattle.shop_defs.specs.declared.key.Key.{Key}
-use Rattle.shop_defs.specs.declared.query.RowRead.{RowRead}
+use Rattle.shop_requests.specs.declared.query.RowRead.{RowRead}
 use Rattle.shop_defs.specs.declared.row.Row.{Row}
 use Rattle.shop_defs.specs.declared.table.EntityInfo.{EntityInfo}
 use Rattle.shop_defs.specs.Keys.{key_cmp}
-use Rattle.shop_defs.specs.Operations.{or_else, wrong_second}
+use Rattle.shop_requests.specs.Operations.{or_else, wrong_second}
 use Rattle.shop_defs.specs.Rows.{row_at}
 use Rattle.shop_defs.specs.Tables.{entity_named, info_named}
 use Rattle.shop_operations.specs.References.{is_entity, is_live}

@@ -3,14 +3,14 @@ use Rattle.std.specs.Prelude.{ℕ, zero, ℤ, pos, ◌≡◌, ◌<◌, ◌≤◌
 use Rattle.std.specs.List.{fold}
 use Rattle.keyed.specs.Keyed.{put}
 use Rattle.shop_defs.specs.declared.broken.Broken.TheVariants.{HistoryFull}
-use Rattle.shop_defs.specs.declared.command.Command.{Command}
-use Rattle.shop_defs.specs.declared.command.Command.TheVariants as commands
-use Rattle.shop_defs.specs.declared.op.RawOp.{RawOp}
+use Rattle.shop_requests.specs.declared.command.Command.{Command}
+use Rattle.shop_requests.specs.declared.command.Command.TheVariants as commands
+use Rattle.shop_requests.specs.declared.raw.RawOp.{RawOp}
 use Rattle.shop_defs.specs.declared.refused.Refused.{Refused}
 use Rattle.shop_defs.specs.declared.row.Row.{Row}
 use Rattle.shop_defs.specs.Keys.{key_cmp}
 use Rattle.shop_defs.specs.Rows.{row_key, IsInKeyOrder}
-use Rattle.shop_operations.specs.Batches.{live_batch}
+use Rattle.shop_soundness.specs.Batches.{live_batch}
 use Rattle.shop_operations.specs.References.{live}
 use Rattle.shop_operations.specs.Views.{drafted}
 use Rattle.shop_write.specs.BatchPlans.{HaveIds}

@@ -6,9 +6,8 @@ ghost use Rattle.shop_core.specs.Requests as spec;
 
 use shop_chain::Shown;
 use shop_check::Rule;
-use shop_defs::{
-    Broken, Command, Key, LineFault, List, NoMemory, Refused, Row, RowRead, Txt, Value,
-};
+use shop_defs::{Broken, Key, List, NoMemory, Refused, Row, Txt, Value};
+use shop_requests::{Command, LineFault, RowRead};
 
 /// A command is done.
 #[derive(Drop, Clone, Copy)]

@@ -6,7 +6,8 @@ ghost use Rattle.shop_kept.specs.Spelling.{FitsRow, IsKeptRow, kept_row};
 ghost use Rattle.shop_core.specs.Plans.{Plans, encoded, AreKeptRows, FitTheFormat};
 ghost use Rattle.shop_core.specs.Steps.{IsBuilt};
 
-use shop_defs::{Command, Delta, Key, List, NoMemory, PlanFault, Row};
+use shop_defs::{Delta, Key, List, NoMemory, PlanFault, Row};
+use shop_requests::Command;
 use shop_kept::encode_row;
 use shop_outside::Moment;
 use shop_rows::Rows;

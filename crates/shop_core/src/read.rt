@@ -1,7 +1,7 @@
 //! Rows as they are shown and listed.
 ghost use Rattle.std.specs.Prelude.{◌≡◌, IfOk, MatchResult, map, take, filter};
 ghost use Rattle.std.specs.Option.{option_copied};
-ghost use Rattle.shop_defs.specs.Operations as Operations;
+ghost use Rattle.shop_requests.specs.Operations as Operations;
 ghost use Rattle.shop_defs.specs.Rows.{row_at, IsInKeyOrder};
 ghost use Rattle.shop_defs.specs.Tables as Tables;
 ghost use Rattle.shop_chain.specs.Chains as Chains;
@@ -12,10 +12,8 @@ ghost use Rattle.shop_core.specs.Seeing.{Sees};
 
 use crate::answers::{AskFault, RowReply, RowSeen};
 use shop_chain::{Shown, chain, chain_of, shown_of};
-use shop_defs::{
-    Broken, Copied, Entity, EntityInfo, Key, KeyForm, List, NoMemory, Row, RowRead, Txt, Value,
-    entity_info, entity_named,
-};
+use shop_defs::{Broken, Copied, Entity, EntityInfo, Key, KeyForm, List, NoMemory, Row, Txt, Value, entity_info, entity_named};
+use shop_requests::RowRead;
 use shop_rows::Rows;
 use std::alloc::Global;
 

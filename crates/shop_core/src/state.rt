@@ -16,7 +16,8 @@ use crate::answers::{
 use crate::plan::{encode_changes, plan};
 use crate::read::{copy_list, copy_row, see_list, see_row};
 use shop_check::{CheckFault, check_rows};
-use shop_defs::{Broken, Command, List, PlanFault, Refused, Row, RowRead};
+use shop_defs::{Broken, List, PlanFault, Refused, Row};
+use shop_requests::{Command, RowRead};
 use shop_outside::{KeepFault, Keeper, Moment};
 use shop_rows::Rows;
 use std::alloc::Global;

@@ -1,6 +1,5 @@
 pub mod Entities
 pub mod Keys
-pub mod Ids
 pub mod Rows
 pub mod Joined
 pub mod Texts
@@ -10,5 +9,3 @@ pub mod Checks
 pub mod Presets
 pub mod Fitting
 pub mod References
-pub mod Operations
-pub mod Places

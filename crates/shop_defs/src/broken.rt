@@ -10,7 +10,7 @@ use std::alloc::Global;
 ///
 /// The rules are tried in this order, but that placing an order has an order of its own. Where one rule is broken at several places, the least is named:
 /// field names by their bytes, keys in the order of keys.
-#[derive(Debug, Drop)]
+#[derive(Drop)]
 pub enum Broken {
     /// No entity has the name, or the operation is on an entity that operations may not write.
     UnknownEntity,

@@ -4,7 +4,7 @@ ghost use Rattle.std.specs.Prelude.{◌≡◌, IfOk};
 use std::alloc::{AllocError, AllocFailed, Global};
 
 /// Memory was wanted and refused: the one error of a call that fails for nothing else.
-#[derive(Debug, Drop, Clone, Copy, PartialEq, Eq)]
+#[derive(Drop, Clone, Copy)]
 pub struct NoMemory;
 
 impl From<AllocError> for NoMemory {

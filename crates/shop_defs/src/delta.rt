@@ -6,7 +6,7 @@ use crate::row::Row;
 use std::alloc::Global;
 
 /// What is changed about the rows, all at once.
-#[derive(Debug, Drop, PartialEq, Eq)]
+#[derive(Drop)]
 pub struct Delta {
     /// The keys of the rows that change, ascending, each with the row that stands there from then on,
     /// whose key it is. `None` takes the row away.

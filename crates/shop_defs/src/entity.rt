@@ -14,10 +14,10 @@ use std::cmp::Ordering;
 ///
 /// The numbers, 1 to 25 in the order below, are fixed: keys are ordered and kept by them. `Eq` and
 /// `Ord` compare them.
-#[derive(Debug, Drop, Clone, Copy)]
+#[derive(Drop, Clone, Copy)]
 pub enum Entity {
     /// A language that texts are translated to.
-    Language = 1,
+    Language,
     /// A tax rate.
     Tax,
     /// A category of products, in a tree of categories.
@@ -79,7 +79,7 @@ impl Entity {
     pub fn number(self) -> u8
         ensures { result ≡ entity_number self }
     {
-        self as u8
+        self as u8 + 1
     }
 }
 

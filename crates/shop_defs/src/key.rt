@@ -11,7 +11,7 @@ use std::cmp::Ordering;
 ///
 /// Keys are ordered by the number of the entity, then by version, by id and by second part. `Ord`
 /// and `order` give this order.
-#[derive(Debug, Drop, Clone, Copy, PartialEq, Eq, PartialOrd, Ord)]
+#[derive(Drop, Clone, Copy, PartialEq, Eq, PartialOrd, Ord)]
 pub struct Key {
     /// The kind of row.
     pub entity: Entity,

@@ -1,8 +1,6 @@
 //! A `Vec` that contracts see as the list of its elements.
 ghost use Rattle.std.specs.Prelude.{◌≡◌, [], ◌∷◌, ◌++◌, ◌<◌, length, slice_get, take, ◌↔◌, IsTrue, IfOk, MatchOption, OnOk, OnErr, OnSome};
 ghost use Rattle.std.specs.Option.{option_copied};
-ghost use Rattle.std.specs.Cmp.Lexicographic.{pointwise, lists_per};
-ghost use Rattle.std.proofs.lemmas.Cmp.{lists_equiv};
 ghost use Rattle.std.specs.Slice.Iter.{iter_rest};
 ghost use Rattle.std.specs.Iterator.Adapters.{IterYieldsInOrder};
 
@@ -13,8 +11,8 @@ use std::slice::Iter;
 
 /// A `Vec` whose place in memory and spare room no contract sees.
 ///
-/// It copies and compares by its elements.
-#[derive(Debug, Drop)]
+/// It copies by its elements.
+#[derive(Drop)]
 pub struct List<T> {
     items: Vec<T>,
 }
@@ -132,18 +130,4 @@ impl<T: Copied> Copied for List<T> {
         }
         Ok(List { items: copy })
     }
-}
-
-impl<T: PartialEq> PartialEq for List<T> {
-    ghost eq = { pointwise T.eq };
-
-    ghost laws = { lists_per T.laws };
-
-    fn eq(&self, other: &List<T>) -> bool {
-        self.as_slice() == other.as_slice()
-    }
-}
-
-impl<T: Eq> Eq for List<T> {
-    ghost laws = { lists_equiv T.Eq.laws };
 }

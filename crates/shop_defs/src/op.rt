@@ -1,13 +1,12 @@
-//! Operations on rows, as a request gives them and as they are read.
+//! Operations on rows.
 use crate::copied::{Copied, NoMemory};
 use crate::entity::Entity;
 use crate::list::List;
-use crate::txt::Txt;
-use crate::value::{Raw, Value};
+use crate::value::Value;
 use std::alloc::Global;
 
 /// What an operation does to its row.
-#[derive(Debug, Drop, Clone, Copy, PartialEq, Eq)]
+#[derive(Drop, Clone, Copy, PartialEq, Eq)]
 pub enum OpKind {
     /// Changes the fields that are given, or inserts the row where there is none.
     Upsert,
@@ -15,35 +14,8 @@ pub enum OpKind {
     Delete,
 }
 
-/// An operation as a request gives it: with names, and values of any kind.
-#[derive(Debug, Drop, PartialEq, Eq)]
-pub struct RawOp {
-    /// What it does.
-    pub kind: OpKind,
-    /// The name that is given for the kind of row.
-    pub entity: Txt,
-    /// The id of the row.
-    pub id: u128,
-    /// The second part of the row's key. 0 means that none is given.
-    pub second: u128,
-    /// The names of the fields that are given, each with what is given for it.
-    pub fields: List<(Txt, Raw)>,
-}
-
-impl Copied for RawOp {
-    fn copy(&self, alloc: Global) -> Result<RawOp, NoMemory> {
-        Ok(RawOp {
-            kind: self.kind,
-            entity: self.entity.copy(alloc)?,
-            id: self.id,
-            second: self.second,
-            fields: self.fields.copy(alloc)?,
-        })
-    }
-}
-
 /// An operation whose entity, fields and values are known.
-#[derive(Debug, Drop, PartialEq, Eq)]
+#[derive(Drop)]
 pub struct Op {
     /// What it does.
     pub kind: OpKind,

@@ -4,7 +4,7 @@ use crate::copied::{Copied, NoMemory};
 use std::alloc::Global;
 
 /// That a request is refused: it breaks a rule, and nothing is changed.
-#[derive(Debug, Drop)]
+#[derive(Drop)]
 pub struct Refused {
     /// Which operation of a batch breaks the rule, counted from 1. 0 where the rule is broken by no
     /// operation.
@@ -23,7 +23,7 @@ impl Copied for Refused {
 }
 
 /// Why what a request would change is not known.
-#[derive(Debug, Drop)]
+#[derive(Drop)]
 pub enum PlanFault {
     /// The request is refused.
     Refused(Refused),

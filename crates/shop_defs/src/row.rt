@@ -12,7 +12,7 @@ use ordered::Entry;
 use std::alloc::Global;
 
 /// A row: its key, and what its fields hold.
-#[derive(Debug, Drop, PartialEq, Eq)]
+#[derive(Drop)]
 pub struct Row {
     /// What the row is filed under.
     pub key: Key,

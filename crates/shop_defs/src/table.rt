@@ -7,7 +7,7 @@ use crate::entity::Entity;
 use crate::words::{Choice, FieldName};
 
 /// How many parts the key of an entity's rows has.
-#[derive(Debug, Drop, Clone, Copy, PartialEq, Eq)]
+#[derive(Drop, Clone, Copy)]
 pub enum KeyForm {
     /// The id alone. The second part is 0.
     OnePart,
@@ -16,7 +16,7 @@ pub enum KeyForm {
 }
 
 /// What the rows of an entity have in common.
-#[derive(Debug, Drop, Clone, Copy)]
+#[derive(Drop, Clone, Copy)]
 pub struct EntityInfo {
     pub entity: Entity,
     pub key: KeyForm,
@@ -27,7 +27,7 @@ pub struct EntityInfo {
 }
 
 /// What a field may hold. Any field but a required one or one with a preset may be null, too.
-#[derive(Debug, Drop, Clone, Copy)]
+#[derive(Drop, Clone, Copy)]
 pub enum FieldKind {
     /// True or false.
     Flag,
@@ -49,7 +49,7 @@ pub enum FieldKind {
 }
 
 /// What a field holds where it would be null.
-#[derive(Debug, Drop, Clone, Copy)]
+#[derive(Drop, Clone, Copy)]
 pub enum Preset {
     /// Nothing: it is null then.
     Absent,
@@ -60,7 +60,7 @@ pub enum Preset {
 }
 
 /// Rules on a field that don't depend on its kind.
-#[derive(Debug, Drop, Clone, Copy)]
+#[derive(Drop, Clone, Copy)]
 pub struct Marks {
     /// It may not be null.
     pub required: bool,
@@ -74,7 +74,7 @@ pub struct Marks {
 }
 
 /// A field of an entity.
-#[derive(Debug, Drop, Clone, Copy)]
+#[derive(Drop, Clone, Copy)]
 pub struct FieldInfo {
     /// Its place among the fields of the entity, counted from 1.
     pub number: u8,
@@ -85,7 +85,7 @@ pub struct FieldInfo {
 }
 
 /// Where a row holds the id of another.
-#[derive(Debug, Drop, Clone, Copy)]
+#[derive(Drop, Clone, Copy)]
 pub enum Part {
     /// In the id of its own key.
     Id,
@@ -96,7 +96,7 @@ pub enum Part {
 }
 
 /// What a delete of the row referred to does to the row that refers.
-#[derive(Debug, Drop, Clone, Copy)]
+#[derive(Drop, Clone, Copy)]
 pub enum OnDelete {
     /// It goes too.
     Cascade,
@@ -109,7 +109,7 @@ pub enum OnDelete {
 }
 
 /// A reference from the rows of one entity to those of another.
-#[derive(Debug, Drop, Clone, Copy)]
+#[derive(Drop, Clone, Copy)]
 pub struct Reference {
     /// The entity whose rows refer.
     pub entity: Entity,
@@ -135,7 +135,7 @@ impl Reference {
 }
 
 /// How deep the trees that an entity's rows make by their parents may be.
-#[derive(Debug, Drop, Clone, Copy)]
+#[derive(Drop, Clone, Copy)]
 pub struct LevelLimit {
     pub entity: Entity,
     /// The greatest level: a row without parent has level 1.
@@ -143,7 +143,7 @@ pub struct LevelLimit {
 }
 
 /// How many rows of an entity one row that they belong to may have.
-#[derive(Debug, Drop, Clone, Copy)]
+#[derive(Drop, Clone, Copy)]
 pub struct OwnerLimit {
     pub entity: Entity,
     /// Where a row says which row it belongs to.

@@ -1,8 +1,5 @@
 //! A text that contracts see as its bytes.
 ghost use Rattle.std.specs.Prelude.{◌≡◌, [], ◌∷◌, ◌++◌, length, string_bytes, IsTrue, ◌↔◌, IfOk};
-ghost use Rattle.std.specs.Str.{bytes_eq};
-ghost use Rattle.std.specs.Cmp.{partial_equiv_from_equiv};
-ghost use Rattle.std.proofs.lemmas.Cmp.{nat_list_eq_equiv};
 
 use crate::copied::{Copied, NoMemory};
 use std::alloc::Global;
@@ -10,8 +7,8 @@ use std::marker::Model;
 
 /// A `String` whose place in memory and spare room no contract sees.
 ///
-/// It copies and compares by its bytes, which are UTF-8.
-#[derive(Debug, Drop)]
+/// It copies by its bytes, which are UTF-8.
+#[derive(Drop)]
 pub struct Txt {
     text: String,
 }
@@ -82,18 +79,4 @@ impl Copied for Txt {
     fn copy(&self, alloc: Global) -> Result<Txt, NoMemory> {
         Txt::from_str(alloc, self.as_str())
     }
-}
-
-impl PartialEq for Txt {
-    ghost eq = { bytes_eq };
-
-    ghost laws = { partial_equiv_from_equiv nat_list_eq_equiv };
-
-    fn eq(&self, other: &Txt) -> bool {
-        self.as_bytes() == other.as_bytes()
-    }
-}
-
-impl Eq for Txt {
-    ghost laws = { nat_list_eq_equiv };
 }

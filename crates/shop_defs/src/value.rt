@@ -1,4 +1,4 @@
-//! What a field holds, and what a request gives for it.
+//! What a field holds.
 ghost use Rattle.std.specs.Prelude.{◌≡◌, ◌↔◌, IsTrue};
 
 use crate::copied::{Copied, NoMemory};
@@ -6,7 +6,7 @@ use crate::txt::Txt;
 use std::alloc::Global;
 
 /// What a field of a row holds. A field that is empty holds no value.
-#[derive(Debug, Drop, PartialEq, Eq)]
+#[derive(Drop)]
 pub enum Value {
     /// A flag: true or false.
     Flag(bool),
@@ -27,7 +27,7 @@ impl Value {
         match (self, other) {
             (Value::Flag(a), Value::Flag(b)) => *a == *b,
             (Value::Int(a), Value::Int(b)) => *a == *b,
-            (Value::Text(a), Value::Text(b)) => *a == *b,
+            (Value::Text(a), Value::Text(b)) => a.as_bytes() == b.as_bytes(),
             (Value::Ident(a), Value::Ident(b)) => *a == *b,
             _ => false,
         }
@@ -41,36 +41,6 @@ impl Copied for Value {
             Value::Int(number) => Ok(Value::Int(*number)),
             Value::Text(text) => Ok(Value::Text(text.copy(alloc)?)),
             Value::Ident(id) => Ok(Value::Ident(*id)),
-        }
-    }
-}
-
-/// What a request gives for a field, before it is known which kind of value the field takes.
-#[derive(Debug, Drop, PartialEq, Eq)]
-pub enum Raw {
-    /// Nothing: the field is to be empty.
-    Null,
-    /// True or false.
-    Flag(bool),
-    /// A whole number that an `i64` holds.
-    Int(i64),
-    /// A whole number above those that an `i64` holds, and so above every field's range.
-    Big(u64),
-    /// A text.
-    Text(Txt),
-    /// Anything else, which no field takes.
-    Other,
-}
-
-impl Copied for Raw {
-    fn copy(&self, alloc: Global) -> Result<Raw, NoMemory> {
-        match self {
-            Raw::Null => Ok(Raw::Null),
-            Raw::Flag(flag) => Ok(Raw::Flag(*flag)),
-            Raw::Int(number) => Ok(Raw::Int(*number)),
-            Raw::Big(number) => Ok(Raw::Big(*number)),
-            Raw::Text(text) => Ok(Raw::Text(text.copy(alloc)?)),
-            Raw::Other => Ok(Raw::Other),
         }
     }
 }

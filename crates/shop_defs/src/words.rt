@@ -5,7 +5,7 @@ ghost use Rattle.shop_defs.specs.Texts.{choice_texts, entity_text, field_text};
 use crate::entity::Entity;
 
 /// The name of a field. Fields of several entities may share one.
-#[derive(Debug, Drop, Clone, Copy)]
+#[derive(Drop, Clone, Copy)]
 pub enum FieldName {
     Name,
     Parent,
@@ -64,7 +64,7 @@ pub enum FieldName {
 }
 
 /// The words of which a field holds one.
-#[derive(Debug, Drop, Clone, Copy)]
+#[derive(Drop, Clone, Copy)]
 pub enum Choice {
     /// What a node of a stream's filters tests, or how it joins the nodes below it.
     FilterKind,
@@ -90,37 +90,98 @@ pub enum Choice {
     RootEntity,
 }
 
+/// The names of the entities, in the order of `Entity`.
+static ENTITY_TEXTS: [&str; 25] = [
+    "language",
+    "tax",
+    "category",
+    "category_translation",
+    "product",
+    "product_translation",
+    "product_category",
+    "product_price",
+    "stream",
+    "stream_filter",
+    "rule",
+    "rule_condition",
+    "promotion",
+    "promotion_discount",
+    "shipping_method",
+    "shipping_price",
+    "stock",
+    "cart",
+    "cart_line",
+    "cart_code",
+    "order",
+    "order_line",
+    "order_tax",
+    "draft",
+    "draft_commit",
+];
+
+/// The names of fields, in the order of `FieldName`.
+static FIELD_TEXTS: [&str; 54] = [
+    "name",
+    "parent",
+    "rate",
+    "active",
+    "position",
+    "description",
+    "number",
+    "tax",
+    "gross",
+    "net",
+    "weight",
+    "min_order",
+    "max_order",
+    "product",
+    "rule",
+    "low",
+    "high",
+    "stream",
+    "kind",
+    "field",
+    "value",
+    "category",
+    "priority",
+    "from_day",
+    "to_day",
+    "text",
+    "method",
+    "code",
+    "from_moment",
+    "until_moment",
+    "promotion",
+    "scope",
+    "by",
+    "available",
+    "adjusted",
+    "language",
+    "tax_state",
+    "tax_mode",
+    "interval",
+    "group",
+    "country",
+    "cart",
+    "quantity",
+    "state",
+    "placed",
+    "total",
+    "rounding",
+    "label",
+    "unit",
+    "amount",
+    "root_entity",
+    "root",
+    "commits",
+    "count",
+];
+
 /// The name of an entity, as requests and replies spell it.
 pub fn entity_name(entity: Entity) -> &'static str
     ensures { result.now ≡ entity_text entity }
 {
-    match entity {
-        Entity::Language => "language",
-        Entity::Tax => "tax",
-        Entity::Category => "category",
-        Entity::CategoryTranslation => "category_translation",
-        Entity::Product => "product",
-        Entity::ProductTranslation => "product_translation",
-        Entity::ProductCategory => "product_category",
-        Entity::ProductPrice => "product_price",
-        Entity::Stream => "stream",
-        Entity::StreamFilter => "stream_filter",
-        Entity::Rule => "rule",
-        Entity::RuleCondition => "rule_condition",
-        Entity::Promotion => "promotion",
-        Entity::PromotionDiscount => "promotion_discount",
-        Entity::ShippingMethod => "shipping_method",
-        Entity::ShippingPrice => "shipping_price",
-        Entity::Stock => "stock",
-        Entity::Cart => "cart",
-        Entity::CartLine => "cart_line",
-        Entity::CartCode => "cart_code",
-        Entity::Order => "order",
-        Entity::OrderLine => "order_line",
-        Entity::OrderTax => "order_tax",
-        Entity::Draft => "draft",
-        Entity::DraftCommit => "draft_commit",
-    }
+    ENTITY_TEXTS[entity as usize]
 }
 
 impl FieldName {
@@ -128,62 +189,7 @@ impl FieldName {
     pub fn text(self) -> &'static str
         ensures { result.now ≡ field_text self }
     {
-        match self {
-            FieldName::Name => "name",
-            FieldName::Parent => "parent",
-            FieldName::Rate => "rate",
-            FieldName::Active => "active",
-            FieldName::Position => "position",
-            FieldName::Description => "description",
-            FieldName::Number => "number",
-            FieldName::Tax => "tax",
-            FieldName::Gross => "gross",
-            FieldName::Net => "net",
-            FieldName::Weight => "weight",
-            FieldName::MinOrder => "min_order",
-            FieldName::MaxOrder => "max_order",
-            FieldName::Product => "product",
-            FieldName::Rule => "rule",
-            FieldName::Low => "low",
-            FieldName::High => "high",
-            FieldName::Stream => "stream",
-            FieldName::Kind => "kind",
-            FieldName::Field => "field",
-            FieldName::Value => "value",
-            FieldName::Category => "category",
-            FieldName::Priority => "priority",
-            FieldName::FromDay => "from_day",
-            FieldName::ToDay => "to_day",
-            FieldName::Text => "text",
-            FieldName::Method => "method",
-            FieldName::Code => "code",
-            FieldName::FromMoment => "from_moment",
-            FieldName::UntilMoment => "until_moment",
-            FieldName::Promotion => "promotion",
-            FieldName::Scope => "scope",
-            FieldName::By => "by",
-            FieldName::Available => "available",
-            FieldName::Adjusted => "adjusted",
-            FieldName::Language => "language",
-            FieldName::TaxState => "tax_state",
-            FieldName::TaxMode => "tax_mode",
-            FieldName::Interval => "interval",
-            FieldName::Group => "group",
-            FieldName::Country => "country",
-            FieldName::Cart => "cart",
-            FieldName::Quantity => "quantity",
-            FieldName::State => "state",
-            FieldName::Placed => "placed",
-            FieldName::Total => "total",
-            FieldName::Rounding => "rounding",
-            FieldName::Label => "label",
-            FieldName::Unit => "unit",
-            FieldName::Amount => "amount",
-            FieldName::RootEntity => "root_entity",
-            FieldName::Root => "root",
-            FieldName::Commits => "commits",
-            FieldName::Count => "count",
-        }
+        FIELD_TEXTS[self as usize]
     }
 }
 

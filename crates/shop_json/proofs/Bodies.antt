@@ -6,9 +6,9 @@ use Rattle.std.specs.Str.{is_utf8}
 use Rattle.std.proofs.lemmas.Str.{IsUtf8-from_is_utf8, is_utf8-from_IsUtf8}
 use Rattle.serde_json.specs.Data.{Data}
 use Rattle.serde_json.specs.Read.{read}
-use Rattle.shop_defs.specs.declared.command.Command.TheVariants as commands
-use Rattle.shop_defs.specs.declared.op.RawOp.{RawOp}
-use Rattle.shop_defs.specs.declared.route.Route.TheVariants as routes
+use Rattle.shop_requests.specs.declared.command.Command.TheVariants as commands
+use Rattle.shop_requests.specs.declared.raw.RawOp.{RawOp}
+use Rattle.shop_requests.specs.declared.route.Route.TheVariants as routes
 use Rattle.shop_core.specs.declared.answers.Request.TheVariants as requests
 use Rattle.body_json.specs.Bodies.{HasNoReading, IsRead, Reads as SaysValue}
 use Rattle.body_json.specs.declared.fault.BodyFault.{BodyFault}

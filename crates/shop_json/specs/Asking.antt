@@ -3,12 +3,12 @@ use Rattle.std.specs.Prelude.{◌≡◌, ℕ, false, List, Option, Some, None, i
 use Rattle.std.specs.Str.{is_utf8}
 use Rattle.serde_json.specs.Data.{Data}
 use Rattle.serde_json.specs.Read.{read}
-use Rattle.shop_defs.specs.declared.command.Command.TheVariants as commands
-use Rattle.shop_defs.specs.declared.line_fault.LineFault.{LineFault}
-use Rattle.shop_defs.specs.declared.line_fault.LineFault.TheVariants as F
-use Rattle.shop_defs.specs.declared.op.RawOp.{RawOp}
-use Rattle.shop_defs.specs.declared.route.Route.{Route}
-use Rattle.shop_defs.specs.declared.route.Route.TheVariants as routes
+use Rattle.shop_requests.specs.declared.command.Command.TheVariants as commands
+use Rattle.shop_requests.specs.declared.line_fault.LineFault.{LineFault}
+use Rattle.shop_requests.specs.declared.line_fault.LineFault.TheVariants as F
+use Rattle.shop_requests.specs.declared.raw.RawOp.{RawOp}
+use Rattle.shop_requests.specs.declared.route.Route.{Route}
+use Rattle.shop_requests.specs.declared.route.Route.TheVariants as routes
 use Rattle.body_json.specs.Shapes.{batch}
 use Rattle.body_json.specs.WellFormed.{HaveAscendingNames}
 use Rattle.body_json.specs.declared.fault.BodyFault.{BodyFault}

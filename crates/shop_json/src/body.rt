@@ -6,7 +6,8 @@ ghost use Rattle.shop_routes.specs.Later.{is_later};
 
 use body_json::{BodyFault, read_batch};
 use shop_core::Request;
-use shop_defs::{Command, Copied, NoMemory, Route, RowRead};
+use shop_defs::{Copied, NoMemory};
+use shop_requests::{Command, Route, RowRead};
 use std::alloc::Global;
 
 /// The request of a route whose answer is there, with that body.

@@ -5,10 +5,8 @@ ghost use Rattle.shop_json.specs.Asking.{IsServedRoute};
 use crate::{BodyFault, read_body, reply_text, seen_list_text, seen_row_text};
 use shop_chain::{chain, shown_of};
 use shop_core::{Done, Reply, Request, RowReply, RowSeen};
-use shop_defs::{
-    Broken, Command, Entity, Key, LineFault, List, NoMemory, Refused, Route, Row, RowRead, Txt,
-    Value,
-};
+use shop_defs::{Broken, Entity, Key, List, NoMemory, Refused, Row, Txt, Value};
+use shop_requests::{Command, LineFault, Route, RowRead};
 use shop_rows::Rows;
 use std::alloc::Global;
 use std::process::Abort;

@@ -4,5 +4,4 @@ pub mod Deletes
 pub mod Upserts
 pub mod Views
 pub mod Operations
-pub mod Batches
 pub mod Soundness

@@ -9,11 +9,11 @@
 //! - `given_to` is the row that an upsert leaves of another: what is given, then the presets.
 //! - `fixed_field` and `missing_required` are the refusals of a row alone, with the field of the
 //!   least name; `first_fixed` and `first_missing` find it without memory.
-//! - `refuse_reference` is the refusal of a reference, by `reference_name` and `lesser_reference`;
-//!   `gives`, `gives_part` and `gives_parent` say what an operation gives.
-//! - `named`, `ties`, `falls_with`, `refers_to`, `holds_back`, `parent_id` and `is_child` say how a
-//!   row stands to another, `stands_at` and `order_of_places` where it stands, `is_twin` whether
-//!   two rows have the same unique fields.
+//! - `refuse_reference` is the refusal of a reference, by `reference_name`; `gives`, `gives_part`
+//!   and `gives_parent` say what an operation gives.
+//! - `named`, `ties`, `falls_with`, `refers_to`, `restricts`, `sets_null` and `parent_id` say how a
+//!   row stands to another, `stands_at` where it stands, `is_twin` whether two rows have the same
+//!   unique fields.
 #![tactic(auto)]
 
 mod given;
@@ -23,10 +23,10 @@ mod twins;
 mod written;
 
 pub use given::{bare_row, given_to};
-pub use places::{order_of_places, stands_at};
-pub use references::{falls_with, holds_back, is_id, named, part_of, refers_to, sets_null, ties};
+pub use places::stands_at;
+pub use references::{falls_with, is_id, named, part_of, refers_to, restricts, sets_null, ties};
 pub use twins::{agree_in, has_unique, is_twin, same_value};
 pub use written::{
-    first_fixed, first_missing, fixed_field, gives, gives_parent, gives_part, is_child,
-    lesser_reference, missing_required, parent_id, reference_name, refuse_reference,
+    first_fixed, first_missing, fixed_field, gives, gives_parent, gives_part, missing_required,
+    parent_id, reference_name, refuse_reference,
 };

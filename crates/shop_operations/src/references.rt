@@ -49,13 +49,6 @@ pub fn refers_to(row: &Row, key: &Key) -> bool
     refers_in(&REFERENCES, row, key)
 }
 
-/// Whether the row holds the other back from being deleted.
-pub fn holds_back(row: &Row, other: &Row) -> bool
-    ensures { result ≡ spec.holds_back REFERENCES row.now other.now }
-{
-    holds_back_in(&REFERENCES, row, other)
-}
-
 #[tactic(auto, unfolding(crate::specs::References::falls_at))]
 fn falls_in(table: &[Reference], row: &Row, key: &Key) -> bool
     ensures { result ≡ spec.falls_at table.now row.now (entity_number key.now.entity) key.now.id }
@@ -68,13 +61,6 @@ fn refers_in(table: &[Reference], row: &Row, key: &Key) -> bool
     ensures { result ≡ spec.refers_at table.now row.now (entity_number key.now.entity) key.now.id }
 {
     table.iter().any(|reference| reference.acts_on_delete() && names(reference, row, key))
-}
-
-#[tactic(auto, unfolding(crate::specs::References::holds_back))]
-fn holds_back_in(table: &[Reference], row: &Row, other: &Row) -> bool
-    ensures { result ≡ spec.holds_back table.now row.now other.now }
-{
-    table.iter().any(|reference| restricts(reference.on_delete) && ties(reference, row, other))
 }
 
 /// Whether the row names the one at the key by the reference.
@@ -112,7 +98,8 @@ fn cascades(on_delete: OnDelete) -> bool
     }
 }
 
-fn restricts(on_delete: OnDelete) -> bool
+/// Whether the row that refers holds a delete back.
+pub fn restricts(on_delete: OnDelete) -> bool
     ensures { result ≡ spec.restricts on_delete }
 {
     match on_delete {

@@ -9,7 +9,7 @@ ghost use Rattle.shop_operations.specs.Parents as parents;
 ghost use Rattle.shop_operations.specs.References as references;
 ghost use Rattle.shop_operations.specs.Upserts as spec;
 
-use crate::references::{is_id, named};
+use crate::references::named;
 use crate::twins::agree_in;
 use shop_defs::{
     Broken, Entity, FieldInfo, NoMemory, Op, Part, REFERENCES, Reference, Row, Txt, fields_of,
@@ -94,7 +94,7 @@ fn lesser(best: Option<FieldInfo>, field: &FieldInfo) -> Option<FieldInfo>
 }
 
 /// Whether the first name is below the second by its bytes.
-pub(crate) fn is_below(name: &str, other: &str) -> bool
+fn is_below(name: &str, other: &str) -> bool
     ensures { result ≡ is_lt (slice_cmp nat_cmp name.now other.now) }
 {
     match name.as_bytes().cmp(other.as_bytes()) {
@@ -157,14 +157,6 @@ fn parent_in(table: &[Reference], row: &Row) -> Option<u128>
     None
 }
 
-/// Whether the other is the row's parent.
-#[tactic(auto, unfolding(crate::specs::Parents::is_child))]
-pub fn is_child(row: &Row, other: &Row) -> bool
-    ensures { result ≡ parents.is_child REFERENCES row.now other.now }
-{
-    row.key.entity == other.key.entity && is_id(parent_id(row), other.key.id)
-}
-
 /// The refusal of what the row names by the reference. Want of memory is the only error.
 pub fn refuse_reference(alloc: Global, reference: &Reference, row: &Row) -> Result<Broken, NoMemory>
     ensures { IfOk result (λ broken. broken ≡ B.MissingReference (spec.reference_name reference.now) (unwrap_or (references.named reference.now row.now) 0)) }
@@ -173,17 +165,6 @@ pub fn refuse_reference(alloc: Global, reference: &Reference, row: &Row) -> Resu
         field: Txt::from_str(alloc, reference_name(reference))?,
         id: named(reference, row).unwrap_or(0),
     })
-}
-
-/// The one of two references whose part has the lesser name, by its bytes: of equal names the first.
-/// It takes no memory.
-pub fn lesser_reference(best: Option<Reference>, reference: &Reference) -> Option<Reference>
-    ensures { result ≡ spec.lesser spec.reference_name best reference.now }
-{
-    match best {
-        Some(other) if !is_below(reference_name(reference), reference_name(&other)) => Some(other),
-        _ => Some(*reference),
-    }
 }
 
 /// The name of the part in which the reference stands.

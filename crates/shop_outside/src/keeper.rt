@@ -11,7 +11,7 @@ use shop_defs::{Key, List, NoMemory};
 use std::alloc::{AllocError, AllocFailed};
 
 /// What a keeper holds.
-#[derive(Debug, Drop)]
+#[derive(Drop)]
 pub struct Kept {
     /// The bytes under each key.
     pub rows: List<(Key, List<u8>)>,

@@ -4,7 +4,7 @@ use Rattle.std.specs.List.{list_all}
 use Rattle.std.specs.Char.{is_ascii_digit}
 use Rattle.std.specs.Str.Parse.{digits_value}
 use Rattle.std.specs.Str.{bytes_eq}
-use Rattle.shop_defs.specs.Ids.{id_of}
+use Rattle.shop_requests.specs.Ids.{id_of}
 
 -- one or more digits
 abbrev pub is_number : List ℕ → Bool

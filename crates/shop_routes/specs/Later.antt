@@ -1,7 +1,7 @@
 -- Requests whose answer isn't there yet.
 use Rattle.std.specs.Prelude.{◌==◌, Bool, true, false, not, Result, Ok, Err}
-use Rattle.shop_defs.specs.declared.route.Route.{Route}
-use Rattle.shop_defs.specs.declared.route.Route.TheVariants as routes
+use Rattle.shop_requests.specs.declared.route.Route.{Route}
+use Rattle.shop_requests.specs.declared.route.Route.TheVariants as routes
 use Rattle.shop_routes.specs.declared.router.RouteFault.{RouteFault}
 
 -- what is answered so far: a batch for the live version, a row, and a list of rows

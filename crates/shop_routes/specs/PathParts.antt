@@ -1,7 +1,7 @@
 -- The parts of a path, as numbers.
 use Rattle.std.specs.Prelude.{ℕ, List, [], ◌∷◌, Bool, true, false, Option, Some, None, if◌then◌else◌, is_some, unwrap_or, codes}
 use Rattle.matchit.specs.Params.{named}
-use Rattle.shop_defs.specs.Ids.{id_of}
+use Rattle.shop_requests.specs.Ids.{id_of}
 use Rattle.shop_routes.specs.declared.parts.Numbers.{Numbers}
 use Rattle.shop_routes.specs.DigitTexts.{id_or_nil, page_of}
 

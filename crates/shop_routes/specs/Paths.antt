@@ -2,7 +2,7 @@
 use Rattle.std.specs.Prelude.{ℕ, ◌-◌, ◌==◌, ◌&&◌, ◌||◌, not, List, [], ◌∷◌, length, take, Option, Some, None, option_map, Bool, codes, if◌then◌else◌}
 use Rattle.std.specs.List.{list_all, slice_split}
 use Rattle.std.specs.Str.{bytes_eq, is_utf8}
-use Rattle.shop_defs.specs.declared.command.Action.TheVariants.{Process, Complete, Cancel, Reopen}
+use Rattle.shop_requests.specs.declared.command.Action.TheVariants.{Process, Complete, Cancel, Reopen}
 use Rattle.shop_http.specs.declared.respond.Method2.{Method2}
 use Rattle.shop_http.specs.declared.respond.Method2.TheVariants.{Get, Post}
 use Rattle.shop_routes.specs.declared.endpoint.Asked.{Asked}

@@ -1,10 +1,10 @@
 -- What a request's line and headers ask for.
 use Rattle.std.specs.Prelude.{◌≡◌, ℕ, List, Option, Some, None, Bool, true, false, Result, Ok, Err, IsTrue, if◌then◌else◌, codes}
 use Rattle.std.specs.Str.{bytes_eq}
-use Rattle.shop_defs.specs.declared.query.Query.TheVariants as queries
-use Rattle.shop_defs.specs.declared.query.RowRead.{RowRead}
-use Rattle.shop_defs.specs.declared.route.Route.{Route}
-use Rattle.shop_defs.specs.declared.route.Route.TheVariants as routes
+use Rattle.shop_requests.specs.declared.query.Query.TheVariants as queries
+use Rattle.shop_requests.specs.declared.query.RowRead.{RowRead}
+use Rattle.shop_requests.specs.declared.route.Route.{Route}
+use Rattle.shop_requests.specs.declared.route.Route.TheVariants as routes
 use Rattle.shop_http.specs.Requests.{Request}
 use Rattle.shop_http.specs.Responses.{method_text}
 use Rattle.shop_routes.specs.declared.endpoint.Endpoint.{Endpoint}

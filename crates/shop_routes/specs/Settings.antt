@@ -1,7 +1,7 @@
 -- The four header fields that say how a request is answered.
 use Rattle.std.specs.Prelude.{ℕ, List, [], ◌∷◌, Bool, true, false, Option, Some, None, if◌then◌else◌, is_some, unwrap_or, codes}
 use Rattle.std.specs.Str.{bytes_eq}
-use Rattle.shop_defs.specs.Ids.{id_of}
+use Rattle.shop_requests.specs.Ids.{id_of}
 use Rattle.shop_http.specs.Requests.{Field, missing, once, twice, Request}
 use Rattle.shop_routes.specs.declared.headers.Headers.{Headers}
 use Rattle.shop_routes.specs.DigitTexts.{front_of}

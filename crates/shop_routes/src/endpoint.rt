@@ -1,9 +1,9 @@
 //! The paths of the interface.
-use shop_defs::Action;
+use shop_requests::Action;
 use shop_http::Method2;
 
 /// What a path asks for.
-#[derive(Clone, Copy, Debug, PartialEq, Eq)]
+#[derive(Clone, Copy)]
 pub enum Endpoint {
     /// A batch of operations.
     Sync,
@@ -38,7 +38,7 @@ pub enum Endpoint {
 }
 
 /// The method that a path is asked with, and what it asks for.
-#[derive(Clone, Copy, Debug, PartialEq, Eq)]
+#[derive(Clone, Copy)]
 pub struct Asked {
     pub method: Method2,
     pub endpoint: Endpoint,

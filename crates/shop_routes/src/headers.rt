@@ -1,12 +1,12 @@
 //! The four header fields that say how a request is answered.
 ghost use Rattle.std.specs.Prelude.{◌≡◌, ℕ, List, IfOk, IfErr, false};
-ghost use Rattle.shop_defs.specs.Ids.{id_of};
+ghost use Rattle.shop_requests.specs.Ids.{id_of};
 ghost use Rattle.shop_http.specs.Requests.{field_of, request_of};
 ghost use Rattle.shop_routes.specs.DigitTexts.{front_of};
 ghost use Rattle.shop_routes.specs.Settings.{bad_header, flag_of, headers_of, said};
 
 use crate::numerals::read_front;
-use shop_defs::read_id;
+use shop_requests::read_id;
 use shop_http::{Given, Head};
 
 /// What the headers say.

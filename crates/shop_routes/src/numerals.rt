@@ -5,7 +5,7 @@ ghost use Rattle.std.specs.Char.{is_ascii_digit};
 ghost use Rattle.std.specs.Str.Parse.{digits_value};
 ghost use Rattle.shop_routes.specs.DigitTexts as spec;
 
-use shop_defs::read_id;
+use shop_requests::read_id;
 
 /// The last page of a listing.
 const LAST_PAGE: u64 = 999_999_999;

@@ -6,7 +6,7 @@ ghost use Rattle.shop_routes.specs.Seen.{parts_seen};
 
 use crate::numerals::{read_id_or_nil, read_page};
 use matchit::Params;
-use shop_defs::read_id;
+use shop_requests::read_id;
 
 /// The numbers that stand in a path, each 0 where the path has none of that name.
 #[derive(Clone, Copy)]

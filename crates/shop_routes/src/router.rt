@@ -17,13 +17,14 @@ use crate::headers::{Headers, read_headers};
 use crate::parts::{Numbers, read_numbers, text_part};
 use crate::table::full_router;
 use matchit::{Match, Params, Router};
-use shop_defs::{NoMemory, Query, Route, RowRead, Txt};
+use shop_defs::{NoMemory, Txt};
+use shop_requests::{Query, Route, RowRead};
 use shop_http::{Head, Method2};
 use std::alloc::Global;
 use std::str::from_utf8;
 
 /// Why a request asks for nothing that there is.
-#[derive(Debug, Drop, PartialEq, Eq)]
+#[derive(Drop)]
 pub enum RouteFault {
     /// No route has its path.
     NoRoute,

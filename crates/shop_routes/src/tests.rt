@@ -2,7 +2,7 @@
 //!
 //! In the tables `@` stands for the digits of the id 10. A header that is missing is `-`, one that is there twice `=`.
 use crate::router::{RouteFault, Routes};
-use shop_defs::Route;
+use shop_requests::Route;
 use shop_http::{Given, Head};
 use std::alloc::{AllocError, Global};
 use std::process::Abort;

@@ -2,7 +2,7 @@
 use Rattle.std.proofs.Common.{◌≡◌, ◌↔◌, ℕ, None, refl, sym, ap, ◌∙◌, arith}
 use Rattle.std.specs.Prelude.{Ok, Err, IsSome}
 use Rattle.shop_http.specs.declared.respond.Method2.{Method2}
-use Rattle.shop_defs.specs.declared.route.Route.{Route}
+use Rattle.shop_requests.specs.declared.route.Route.{Route}
 use Rattle.body_json.specs.declared.fault.BodyFault.{BodyFault}
 use Rattle.body_json.specs.declared.fault.BodyFault.TheVariants as bodies
 use Rattle.shop_core.specs.declared.answers.Request.{Request as Wanted}

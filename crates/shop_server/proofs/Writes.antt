@@ -1,14 +1,14 @@
 -- What is asked of a shop, as answers to requests.
 use Rattle.std.proofs.Common.{◌≡◌, ℕ, zero, suc, ℤ, pos, ◌+◌, Bool, true, false, List, length, Option, None, refl, sym, ap, ◌∙◌, arith}
 use Rattle.std.specs.Prelude.{nat_lt, if◌then◌else◌, Result, Ok, Err, IfOk, OnErr}
-use Rattle.shop_defs.specs.declared.command.Command.{Command}
-use Rattle.shop_defs.specs.declared.command.Command.TheVariants as commands
-use Rattle.shop_defs.specs.declared.line_fault.LineFault.{LineFault}
-use Rattle.shop_defs.specs.declared.op.RawOp.{RawOp}
-use Rattle.shop_defs.specs.declared.query.RowRead.{RowRead}
+use Rattle.shop_requests.specs.declared.command.Command.{Command}
+use Rattle.shop_requests.specs.declared.command.Command.TheVariants as commands
+use Rattle.shop_requests.specs.declared.line_fault.LineFault.{LineFault}
+use Rattle.shop_requests.specs.declared.raw.RawOp.{RawOp}
+use Rattle.shop_requests.specs.declared.query.RowRead.{RowRead}
 use Rattle.shop_defs.specs.declared.refused.Refused.{Refused}
 use Rattle.shop_defs.specs.declared.row.Row.{Row}
-use Rattle.shop_operations.specs.Batches.{live_batch}
+use Rattle.shop_soundness.specs.Batches.{live_batch}
 use Rattle.shop_http.specs.declared.respond.Method2.{Method2}
 use Rattle.shop_http.specs.Requests.{Asked}
 use Rattle.shop_http.specs.Responses.{no_memory_text}

@@ -2,10 +2,10 @@
 use Rattle.std.specs.Prelude.{ℕ, zero, suc, ℤ, ◌≡◌, ◌≤◌, ◌+◌, ◌-◌, ◌^◌, ◌++◌, min, Bool, List, [], ◌∷◌, length, map, Option, Some, None, is_some, IsSome, ◌↔◌, Result, Ok, Err}
 use Rattle.std.specs.List.{AllByRecursion}
 use Rattle.shop_defs.specs.declared.broken.Broken.{Broken}
-use Rattle.shop_defs.specs.declared.command.Command.{Command}
-use Rattle.shop_defs.specs.declared.line_fault.LineFault.{LineFault}
-use Rattle.shop_defs.specs.declared.line_fault.LineFault.TheVariants as lines
-use Rattle.shop_defs.specs.declared.route.Route.{Route}
+use Rattle.shop_requests.specs.declared.command.Command.{Command}
+use Rattle.shop_requests.specs.declared.line_fault.LineFault.{LineFault}
+use Rattle.shop_requests.specs.declared.line_fault.LineFault.TheVariants as lines
+use Rattle.shop_requests.specs.declared.route.Route.{Route}
 use Rattle.shop_outside.specs.Causes.{Rose}
 use Rattle.shop_outside.specs.Clocks.{IsMoment, Tells}
 use Rattle.shop_core.specs.declared.answers.Reply.{Reply}

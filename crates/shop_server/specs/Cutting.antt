@@ -1,7 +1,7 @@
 -- Which requests are served. What can be no request is refused, and so is a request whose answer isn't there yet.
 use Rattle.std.specs.Prelude.{ℕ, ◌≡◌, false, List, if◌then◌else◌}
-use Rattle.shop_defs.specs.declared.line_fault.LineFault.{LineFault}
-use Rattle.shop_defs.specs.declared.line_fault.LineFault.TheVariants as lines
+use Rattle.shop_requests.specs.declared.line_fault.LineFault.{LineFault}
+use Rattle.shop_requests.specs.declared.line_fault.LineFault.TheVariants as lines
 use Rattle.shop_http.specs.declared.next.HeadFault.{HeadFault}
 use Rattle.shop_http.specs.declared.next.HeadFault.TheVariants as heads
 use Rattle.shop_http.specs.Requests.{Request, Front, whole, part, bad}

@@ -5,7 +5,8 @@ ghost use Rattle.shop_server.specs.Reports.{count_lines, damage_line};
 
 use itoa::Buffer;
 use shop_check::Rule;
-use shop_defs::{Key, NoMemory, entity_name, print_id};
+use shop_defs::{Key, NoMemory, entity_name};
+use shop_requests::print_id;
 use std::alloc::Global;
 
 /// No report is longer than that, in bytes.

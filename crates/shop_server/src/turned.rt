@@ -2,13 +2,13 @@
 ghost use Rattle.std.specs.Prelude.{◌≡◌, None};
 ghost use Rattle.shop_server.specs.declared.turned.TurnedAway.TheVariants as turned;
 
-use shop_defs::LineFault;
+use shop_requests::LineFault;
 use shop_http::Method2;
 use shop_json::BodyFault;
 use shop_routes::RouteFault;
 
 /// Why a request asks nothing of a shop.
-#[derive(Debug, Drop)]
+#[derive(Drop)]
 pub(crate) enum TurnedAway {
     /// It is malformed, or asks for what isn't there.
     Line {

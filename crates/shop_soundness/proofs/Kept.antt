@@ -11,16 +11,16 @@ use Rattle.shop_defs.specs.declared.key.Key.{Key}
 use Rattle.shop_defs.specs.declared.op.Op.{Op}
 use Rattle.shop_defs.specs.declared.op.OpKind.{OpKind}
 use Rattle.shop_defs.specs.declared.op.OpKind.TheVariants.{Upsert, Delete}
-use Rattle.shop_defs.specs.declared.op.RawOp.{RawOp}
+use Rattle.shop_requests.specs.declared.raw.RawOp.{RawOp}
 use Rattle.shop_defs.specs.declared.row.Row.{Row}
 use Rattle.shop_defs.specs.declared.table.EntityInfo.{EntityInfo}
 use Rattle.shop_defs.specs.declared.table.TheConstants.{REFERENCES}
 use Rattle.shop_defs.specs.Fitting.{given_fits, is_writable, parts_fit}
-use Rattle.shop_defs.specs.Operations.{reading, reading_as, refusal, read, if_writable, unless_refused}
+use Rattle.shop_requests.specs.Operations.{reading, reading_as, refusal, read, if_writable, unless_refused}
 use Rattle.shop_defs.specs.Rows.{row_key}
 use Rattle.shop_defs.specs.Tables.{info_named}
-use Rattle.shop_defs.proofs.ReadFits.{read_fits, read_key_fits, read_is_writable}
-use Rattle.shop_operations.specs.Batches.{if_read, done, numbered, batch}
+use Rattle.shop_requests.proofs.ReadFits.{read_fits, read_key_fits, read_is_writable}
+use Rattle.shop_soundness.specs.Batches.{if_read, done, numbered, batch}
 use Rattle.shop_operations.specs.Deletes.{goes, gone, is_field, is_emptied, emptied, deleted, in_use}
 use Rattle.shop_operations.specs.Operations.{place, upserted, in_use_by, removed, by_kind, operated}
 use Rattle.shop_operations.specs.References.{sets_null, ties}

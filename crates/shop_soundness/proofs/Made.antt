@@ -9,14 +9,14 @@ use Rattle.shop_defs.specs.declared.key.Key.{Key}
 use Rattle.shop_defs.specs.declared.op.Op.{Op}
 use Rattle.shop_defs.specs.declared.op.OpKind.{OpKind}
 use Rattle.shop_defs.specs.declared.op.OpKind.TheVariants.{Upsert, Delete}
-use Rattle.shop_defs.specs.declared.op.RawOp.{RawOp}
+use Rattle.shop_requests.specs.declared.raw.RawOp.{RawOp}
 use Rattle.shop_defs.specs.declared.row.Row.{Row}
 use Rattle.shop_defs.specs.declared.table.TheConstants.{REFERENCES}
 use Rattle.shop_defs.specs.declared.value.Value.{Value}
-use Rattle.shop_defs.specs.Operations.{reading}
+use Rattle.shop_requests.specs.Operations.{reading}
 use Rattle.shop_defs.specs.Rows.{row_key}
 use Rattle.shop_defs.specs.Tables.{fields_of}
-use Rattle.shop_operations.specs.Batches.{if_read, done, numbered, batch}
+use Rattle.shop_soundness.specs.Batches.{if_read, done, numbered, batch}
 use Rattle.shop_operations.specs.Deletes.{gone, in_use, is_emptied, deleted}
 use Rattle.shop_operations.specs.Operations.{place, upserted, in_use_by, removed, by_kind, operated}
 use Rattle.shop_operations.specs.Upserts.{place_cmp, row_in, left, bare_row, give}

@@ -4,10 +4,10 @@ use Rattle.std.specs.List.{AllByRecursion}
 use Rattle.shop_defs.specs.declared.op.Op.{Op}
 use Rattle.shop_defs.specs.declared.op.OpKind.{OpKind}
 use Rattle.shop_defs.specs.declared.op.OpKind.TheVariants.{Upsert, Delete}
-use Rattle.shop_defs.specs.declared.op.RawOp.{RawOp}
+use Rattle.shop_requests.specs.declared.raw.RawOp.{RawOp}
 use Rattle.shop_defs.specs.declared.row.Row.{Row}
 use Rattle.shop_defs.specs.Fitting.{is_writable, parts_fit}
-use Rattle.shop_operations.specs.Batches.{batch}
+use Rattle.shop_soundness.specs.Batches.{batch}
 use Rattle.shop_operations.specs.Operations.{operated}
 use Rattle.shop_operations.specs.Soundness.{IsCoherent}
 use Rattle.shop_operations.specs.Views.{View, live_view}

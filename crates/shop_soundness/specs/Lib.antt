@@ -1,3 +1,4 @@
+pub mod Batches
 pub mod Coherence
 pub mod WellFormed
 pub mod Origins

@@ -3,14 +3,14 @@ use Rattle.std.specs.Prelude.{◌≡◌, ◌⊎◌, ℕ, Bool, List, Some, Ok}
 use Rattle.closure.specs.Closure.{IsIn}
 use Rattle.shop_defs.specs.declared.key.Key.{Key}
 use Rattle.shop_defs.specs.declared.op.Op.{Op}
-use Rattle.shop_defs.specs.declared.op.RawOp.{RawOp}
+use Rattle.shop_requests.specs.declared.raw.RawOp.{RawOp}
 use Rattle.shop_defs.specs.declared.row.Row.{Row}
 use Rattle.shop_defs.specs.declared.table.FieldInfo.{FieldInfo}
 use Rattle.shop_defs.specs.declared.value.Value.{Value}
-use Rattle.shop_defs.specs.Operations.{reading}
+use Rattle.shop_requests.specs.Operations.{reading}
 use Rattle.shop_defs.specs.Presets.{preset_of}
 use Rattle.shop_defs.specs.Tables.{fields_of}
-use Rattle.shop_operations.specs.Batches.{batch}
+use Rattle.shop_soundness.specs.Batches.{batch}
 use Rattle.shop_operations.specs.Operations.{operated}
 use Rattle.shop_operations.specs.Views.{View}
 

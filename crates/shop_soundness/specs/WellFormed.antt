@@ -5,10 +5,10 @@ use Rattle.std.specs.Ordering.{nat_cmp}
 use Rattle.keyed.specs.Keyed.{Ascends}
 use Rattle.closure.specs.Closure.{IsIn}
 use Rattle.shop_defs.specs.declared.op.Op.{Op}
-use Rattle.shop_defs.specs.declared.op.RawOp.{RawOp}
+use Rattle.shop_requests.specs.declared.raw.RawOp.{RawOp}
 use Rattle.shop_defs.specs.declared.row.Row.{Row}
 use Rattle.shop_defs.specs.Fitting.{field_fits, has_needed, is_writable, op_fits, row_key_fits}
-use Rattle.shop_operations.specs.Batches.{batch}
+use Rattle.shop_soundness.specs.Batches.{batch}
 use Rattle.shop_operations.specs.Operations.{operated}
 use Rattle.shop_operations.specs.Upserts.{field_number}
 use Rattle.shop_operations.specs.Views.{View}

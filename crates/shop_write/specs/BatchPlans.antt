@@ -2,13 +2,13 @@
 use Rattle.std.specs.Prelude.{◌≡◌, ◌≢◌, ℕ, List, Result, Ok, Err}
 use Rattle.std.specs.List.{AllByRecursion}
 use Rattle.shop_defs.specs.declared.delta.Delta.{Delta}
-use Rattle.shop_defs.specs.declared.op.RawOp.{RawOp}
+use Rattle.shop_requests.specs.declared.raw.RawOp.{RawOp}
 use Rattle.shop_defs.specs.declared.refused.PlanFault.{PlanFault}
 use Rattle.shop_defs.specs.declared.refused.PlanFault.TheVariants as F
 use Rattle.shop_defs.specs.declared.row.Row.{Row}
 use Rattle.shop_defs.specs.Joined.{Change}
 use Rattle.shop_defs.specs.Rows.{change_rows}
-use Rattle.shop_operations.specs.Batches.{done, live_batch}
+use Rattle.shop_soundness.specs.Batches.{done, live_batch}
 use Rattle.shop_operations.specs.References.{live}
 use Rattle.shop_operations.specs.Views.{View, drafted, change_places}
 use Rattle.shop_rows.specs.Changing.{StandUnderTheirKeys, HasAscendingKeys}

@@ -1,7 +1,7 @@
 //! What a batch of operations changes in the live rows.
 ghost use Rattle.std.specs.Prelude.{◌≡◌, ◌≢◌, ◌≤◌, Ok, OnOk, IfErr, length};
 ghost use Rattle.shop_defs.specs.declared.refused.PlanFault.TheVariants as F;
-ghost use Rattle.shop_operations.specs.Batches.{done};
+ghost use Rattle.shop_soundness.specs.Batches.{done};
 ghost use Rattle.shop_operations.specs.Soundness.{IsCoherent};
 ghost use Rattle.shop_operations.specs.Views.{live_view};
 ghost use Rattle.shop_write.specs.BatchPlans.{HaveIds, PlansBatch, PlansDone, IsNumberedFault};
@@ -10,7 +10,8 @@ ghost use Rattle.shop_write.specs.Growth.{grown, grown_view};
 use crate::growing::Growing;
 use crate::operation::plan_op;
 use crate::view::View;
-use shop_defs::{Delta, List, PlanFault, RawOp, Refused, read_op};
+use shop_defs::{Delta, List, PlanFault, Refused};
+use shop_requests::{RawOp, read_op};
 use shop_rows::Rows;
 use std::alloc::Global;
 

@@ -23,7 +23,7 @@ use shop_defs::{
     Broken, Copied, Delta, Key, List, NoMemory, OnDelete, Op, OpKind, Part, PlanFault, REFERENCES,
     Reference, Row, Value,
 };
-use shop_operations::named;
+use shop_operations::{named, restricts, sets_null};
 use std::alloc::Global;
 
 /// What a delete changes, with every row that goes with the row: the keys of the rows that go, and
@@ -68,24 +68,6 @@ fn names_lost(reference: &Reference, row: &Row, lost: &Places) -> bool
     match named(reference, row) {
         Some(id) => lost.has_id(reference.of, id),
         None => false,
-    }
-}
-
-fn restricts(on_delete: OnDelete) -> bool
-    ensures { result ≡ references.restricts on_delete }
-{
-    match on_delete {
-        OnDelete::Restrict => true,
-        _ => false,
-    }
-}
-
-fn sets_null(on_delete: OnDelete) -> bool
-    ensures { result ≡ references.sets_null on_delete }
-{
-    match on_delete {
-        OnDelete::SetNull => true,
-        _ => false,
     }
 }
 

@@ -1,7 +1,7 @@
 use Rattle.std.proofs.Common.{◌≡◌, ◌∙◌, ap, FitsSigned, w64}
 use Rattle.std.proofs.lemmas.Int.{to_z-of_z}
 use Rattle.jiff_core.specs.Date.{epoch_day}
-use Rattle.shop_defs.specs.Days.{day_of}
+use Rattle.shop_requests.specs.Days.{day_of}
 use Rattle.reply_json.proofs.Calendar.{date_is_text, day_reads}
 use Rattle.reply_json.proofs.day.day_text.Goals as goal
 

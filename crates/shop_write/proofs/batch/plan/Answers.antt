@@ -1,6 +1,6 @@
 use Rattle.std.proofs.Common.{ap, subst, sym, ◌∙◌, ◌+◌, drop}
 use Rattle.std.proofs.lemmas.List.{drop_all}
-use Rattle.shop_operations.specs.Batches.{batch, live_batch}
+use Rattle.shop_soundness.specs.Batches.{batch, live_batch}
 use Rattle.shop_operations.specs.Soundness.{IsCoherent}
 use Rattle.shop_operations.specs.Views.{View}
 use Rattle.shop_write.specs.BatchPlans.{HaveIds}

@@ -1,5 +1,5 @@
 use Rattle.std.proofs.Common.{◌≡◌, ◌+◌, drop}
-use Rattle.shop_operations.specs.Batches.{batch, live_batch}
+use Rattle.shop_soundness.specs.Batches.{batch, live_batch}
 use Rattle.shop_operations.specs.Soundness.{IsCoherent}
 use Rattle.shop_write.specs.Growth.{grown_view}
 use Rattle.shop_write.proofs.batch.plan.Given as goal

@@ -1,7 +1,0 @@
-use Rattle.std.proofs.Common.{◌≡◌, take}
-use Rattle.std.specs.Option.{option_copied}
-use Rattle.shop_defs.specs.Operations as spec
-use Rattle.shop_defs.proofs.reading.least_wrong.Given as goal
-
-abbrev pub invariant-loop-name : goal.invariant-loop-name
-invariant-loop-name l = option_copied l.best ≡ spec.least_name (spec.is_wrong l.entity) (option_copied l.initial.best) (take l.name-index l.fields)
