@@ -1,7 +1,8 @@
 #!/usr/bin/env python3
-"""Sends the requests of the files .ci/http/*.cases through the built program, one run a file, and compares all bytes.
+"""Sends the requests of the files .ci/http/*.cases and *.runs through the built program, and compares all bytes.
 
-A file has blocks, parted by empty lines. A block is a request and its response:
+A file `.cases` is one run; in a file `.runs` each block is a run of its own. Blocks are parted by empty lines. A block is a request
+and its response:
 
     POST /sync                      the method and the target
     x-language-id: #4               header fields; Content-Length is added where there is a body
@@ -11,7 +12,7 @@ A file has blocks, parted by empty lines. A block is a request and its response:
 
 `#a` stands for the id with these hexadecimal digits, in targets, fields, bodies and responses. `raw PYTHON` in place of the first
 line gives the whole request as an expression. `use NAME` sends the requests of another file first. `ends N` gives the exit status
-of the run, where it isn't 0. Lines that begin with `--` are comments.
+of the run, where it isn't 0; in a file `.runs` it counts for the blocks below it. Lines that begin with `--` are comments.
 """
 import glob
 import http.client
@@ -90,6 +91,24 @@ def read_file(path):
     return cases, ends
 
 
+def read_runs(path):
+    """The runs of a file, each its requests with their responses and its exit status."""
+    if path.endswith('.cases'):
+        return [read_file(path)]
+    runs, ends = [], 0
+    with open(path, encoding='utf-8') as file:
+        blocks = file.read().split('\n\n')
+    for block in blocks:
+        block = [line for line in block.split('\n') if line and not line.startswith('--')]
+        if not block:
+            continue
+        if block[0].startswith('ends '):
+            ends = int(block[0][5:])
+        else:
+            runs.append(([(block[0],) + read_block(block)], ends))
+    return runs
+
+
 def first_difference(cases, written):
     at = 0
     for name, request, wanted in cases:
@@ -101,16 +120,16 @@ def first_difference(cases, written):
 
 def main():
     program, failed, count = sys.argv[1], 0, 0
-    paths = sys.argv[2:] or sorted(glob.glob(os.path.join(HERE, 'http', '*.cases')))
+    paths = sys.argv[2:] or sorted(glob.glob(os.path.join(HERE, 'http', '*.cases')) + glob.glob(os.path.join(HERE, 'http', '*.runs')))
     for path in paths:
-        cases, ends = read_file(path)
-        count += len(cases)
-        run = subprocess.run([program, 'run'], input=b''.join(c[1] for c in cases), capture_output=True, timeout=600)
-        wanted = b''.join(c[2] for c in cases)
-        if run.stdout != wanted or run.returncode != ends:
-            failed += 1
-            print('%s: status %d\n%s' % (os.path.basename(path), run.returncode, first_difference(cases, run.stdout)))
-    print('%d requests in %d files, %d files differ' % (count, len(paths), failed))
+        for cases, ends in read_runs(path):
+            count += len(cases)
+            run = subprocess.run([program, 'run'], input=b''.join(c[1] for c in cases), capture_output=True, timeout=600)
+            wanted = b''.join(c[2] for c in cases)
+            if run.stdout != wanted or run.returncode != ends:
+                failed += 1
+                print('%s: status %d\n%s' % (os.path.basename(path), run.returncode, first_difference(cases, run.stdout)))
+    print('%d requests in %d files, %d runs differ' % (count, len(paths), failed))
     return failed > 0
 
 

@@ -6,7 +6,7 @@
 use shop_defs::{List, Txt};
 
 /// Which prices a cart has.
-#[derive(Debug, Drop, Clone, Copy, PartialEq, Eq)]
+#[derive(Drop, Clone, Copy)]
 pub enum TaxState {
     /// Prices with tax in them.
     Gross,
@@ -17,7 +17,7 @@ pub enum TaxState {
 }
 
 /// How a cart's tax is summed up.
-#[derive(Debug, Drop, Clone, Copy, PartialEq, Eq)]
+#[derive(Drop, Clone, Copy)]
 pub enum TaxMode {
     /// For each rate, the sum of the taxes of its positions.
     Horizontal,
@@ -27,7 +27,7 @@ pub enum TaxMode {
 
 /// A line of a cart. One that is blocked has no price: its unit price, its total and its rate are 0, and
 /// it counts nowhere, unless it is blocked for its quantity alone.
-#[derive(Debug, Drop, PartialEq, Eq)]
+#[derive(Drop)]
 pub struct PricedLine {
     /// The id of the line.
     pub id: u128,
@@ -44,7 +44,7 @@ pub struct PricedLine {
 }
 
 /// What a promotion takes off a cart or off its delivery.
-#[derive(Debug, Drop, PartialEq, Eq)]
+#[derive(Drop)]
 pub struct Discount {
     /// What is taken off, in minor units: above 0.
     pub amount: i64,
@@ -55,7 +55,7 @@ pub struct Discount {
 }
 
 /// The delivery of a cart.
-#[derive(Debug, Drop, PartialEq, Eq)]
+#[derive(Drop)]
 pub struct Delivery {
     /// What it costs before discounts, in minor units.
     pub cost: i64,
@@ -66,7 +66,7 @@ pub struct Delivery {
 }
 
 /// What a cart comes to at one tax rate.
-#[derive(Debug, Drop, PartialEq, Eq)]
+#[derive(Drop)]
 pub struct TaxSum {
     /// The sum of the positions at this rate, less discounts, in minor units.
     pub amount: i64,

@@ -10,7 +10,7 @@ use std::alloc::Global;
 
 /// What a rate has a claim to: of its exact share the whole units, and the remainder of the division
 /// that gives it.
-#[derive(Debug, Drop, Clone, Copy)]
+#[derive(Drop, Clone, Copy)]
 struct Claim {
     rate: u32,
     floor: u64,

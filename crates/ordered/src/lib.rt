@@ -16,9 +16,6 @@ ghost use Rattle.keyed.specs.Keyed.{Ascends, find, put, without};
 use std::alloc::{AllocError, Global};
 use std::marker::Model;
 
-#[cfg(test)]
-mod tests;
-
 /// An element that has a key.
 pub trait Entry: Drop {
     /// What elements are ordered and looked up by.

@@ -13,7 +13,7 @@ const MOST_LANGUAGES: usize = 3;
 
 /// The languages that a text is looked for in, from the first to the last. Contracts see the list of
 /// their ids.
-#[derive(Debug, Drop)]
+#[derive(Drop)]
 pub struct Chain {
     ids: [u128; MOST_LANGUAGES],
     len: usize,

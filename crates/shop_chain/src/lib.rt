@@ -21,8 +21,6 @@ mod inheritance;
 mod languages;
 mod lent;
 mod numbers;
-#[cfg(test)]
-mod tests;
 mod texts;
 mod walk;
 

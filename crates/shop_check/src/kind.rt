@@ -24,8 +24,9 @@ pub fn law_of_the_kinds()
     ensures { spec.KindsAreKept }
 {}
 
-/// Whether the key, each field and the operations are as the row's entity has them.
-pub(crate) fn is_of_its_kind(row: &Row) -> bool
+/// Whether the key, each field and the operations are as the row's entity has them, whatever is
+/// served. It takes no memory.
+pub fn is_of_its_kind(row: &Row) -> bool
     ensures { result ≡ spec.is_of_its_kind row.now }
 {
     row_key_fits(&row.key) && fields_fit(row.key.entity, row.fields.as_slice()) && do_ops_fit(row)

@@ -25,4 +25,4 @@ mod plain;
 
 pub use check::{check_rows, law_of_the_check};
 pub use fault::{CheckFault, Rule};
-pub use kind::{law_of_the_kinds, passes_kind};
+pub use kind::{is_of_its_kind, law_of_the_kinds, passes_kind};

@@ -8,7 +8,7 @@ ghost use Rattle.shop_http.specs.Words.{front_from, IsUnfinished};
 use crate::region::{Begun, head_end, read_region};
 
 /// Why the bytes can't begin with a request, however they go on.
-#[derive(Clone, Copy, Debug, PartialEq, Eq)]
+#[derive(Clone, Copy)]
 pub enum HeadFault {
     /// What stands there is no head of a request.
     BadHead,

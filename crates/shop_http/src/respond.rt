@@ -8,7 +8,7 @@ use shop_defs::{List, NoMemory};
 use std::alloc::Global;
 
 /// A method that a target can be asked with.
-#[derive(Clone, Copy, Debug, PartialEq, Eq)]
+#[derive(Clone, Copy)]
 pub enum Method2 {
     Get,
     Post,

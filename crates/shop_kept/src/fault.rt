@@ -5,7 +5,7 @@ ghost use Rattle.shop_kept.specs.declared.fault.DecodeFault.TheVariants as F;
 use std::alloc::{AllocError, AllocFailed};
 
 /// Why bytes were not read as a row.
-#[derive(Debug, Drop, Clone, Copy, PartialEq, Eq)]
+#[derive(Drop, Clone, Copy)]
 pub enum DecodeFault {
     /// No row of that key has these bytes.
     Malformed,

@@ -1,9 +1,8 @@
 //! Known bytes of known rows, and bytes that are no row's.
 use crate::fault::DecodeFault;
 use crate::row::{decode_row, encode_row};
-use shop_defs::{Entity, Key, List, NoMemory, Op, OpKind, Row, Txt, Value};
+use shop_defs::{Entity, Key, Op, OpKind, Row, Value};
 use std::alloc::Global;
-use std::test::Fail;
 
 const SAMPLE: u128 = 0x0123_4567_89ab_cdef_fedc_ba98_7654_3210;
 
@@ -36,6 +35,53 @@ const CHANGE: &[u8] = b"\x01\x01\
 \x01\x03\0\0\0\0\0\0\0\0\0\0\0\0\0\0\0\x10\0\0\0\0\0\0\0\0\0\0\0\0\0\0\0\0\
 \x03\x01\x05\x02\x00\x03\x02\xff\xff\xff\xff\xff\xff\xff\xf9\
 \x02\x06\0\0\0\0\0\0\0\0\0\0\0\0\0\0\0\x11\0\0\0\0\0\0\0\0\0\0\0\0\0\0\0\x12\x00";
+
+/// What a field holds, or is given.
+#[derive(Clone, Copy)]
+enum Held {
+    Null,
+    Flag(bool),
+    Int(i64),
+    Text(&'static str),
+    Id(u128),
+}
+
+/// Numbers of fields with what they hold.
+type Fields = &'static [(u8, Held)];
+
+/// Whether an operation deletes, the number of its entity, the id, the second part, and what it gives.
+type Operation = (bool, u8, u128, u128, Fields);
+
+/// The bytes of rows, their fields, and their operations.
+const ROWS: [(&[u8], Fields, &[Operation]); 4] = [
+    (BARE, &[], &[]),
+    (CATEGORY, &[(2, Held::Flag(true)), (3, Held::Int(0))], &[]),
+    (
+        EACH_KIND,
+        &[
+            (1, Held::Flag(false)),
+            (2, Held::Flag(true)),
+            (3, Held::Int(-2)),
+            (4, Held::Text("thés")),
+            (255, Held::Id(SAMPLE)),
+        ],
+        &[],
+    ),
+    (
+        CHANGE,
+        &[(1, Held::Int(2))],
+        &[
+            (
+                false,
+                3,
+                0x10,
+                0,
+                &[(1, Held::Null), (2, Held::Flag(false)), (3, Held::Int(-7))],
+            ),
+            (true, 6, 0x11, 0x12, &[]),
+        ],
+    ),
+];
 
 /// No row of the format: of each the whole is malformed.
 const NO_ROWS: &[&[u8]] = &[
@@ -94,116 +140,106 @@ const SPOILED: [(usize, u8); 14] = [
     (52, 6),
 ];
 
-fn text(alloc: Global, text: &str) -> Result<Value, NoMemory> {
-    Ok(Value::Text(Txt::from_str(alloc, text)?))
+fn is_held(value: Option<&Value>, held: Held) -> bool {
+    match (value, held) {
+        (None, Held::Null) => true,
+        (Some(Value::Flag(value)), Held::Flag(held)) => *value == held,
+        (Some(Value::Int(value)), Held::Int(held)) => *value == held,
+        (Some(Value::Text(value)), Held::Text(held)) => value.as_str() == held,
+        (Some(Value::Ident(value)), Held::Id(held)) => *value == held,
+        _ => false,
+    }
 }
 
-fn category(alloc: Global) -> Result<Row, NoMemory> {
-    let mut fields = List::new(alloc);
-    fields.push((2, Value::Flag(true)))?;
-    fields.push((3, Value::Int(0)))?;
-    Ok(Row {
-        key: KEY,
-        fields,
-        ops: List::new(alloc),
-    })
+fn are_fields(fields: &[(u8, Value)], wanted: Fields) -> bool {
+    let mut holds = fields.len() == wanted.len();
+    for (field, want) in fields.iter().zip(wanted) {
+        holds &= field.0 == want.0 && is_held(Some(&field.1), want.1);
+    }
+    holds
 }
 
-fn each_kind(alloc: Global) -> Result<Row, NoMemory> {
-    let mut fields = List::new(alloc);
-    fields.push((1, Value::Flag(false)))?;
-    fields.push((2, Value::Flag(true)))?;
-    fields.push((3, Value::Int(-2)))?;
-    fields.push((4, text(alloc, "thés")?))?;
-    fields.push((255, Value::Ident(SAMPLE)))?;
-    Ok(Row {
-        key: KEY,
-        fields,
-        ops: List::new(alloc),
-    })
+fn are_given(fields: &[(u8, Option<Value>)], wanted: Fields) -> bool {
+    let mut holds = fields.len() == wanted.len();
+    for (field, want) in fields.iter().zip(wanted) {
+        holds &= field.0 == want.0 && is_held(field.1.as_ref(), want.1);
+    }
+    holds
 }
 
-fn change(alloc: Global) -> Result<Row, NoMemory> {
-    let mut given = List::new(alloc);
-    given.push((1, None))?;
-    given.push((2, Some(Value::Flag(false))))?;
-    given.push((3, Some(Value::Int(-7))))?;
-    let mut ops = List::new(alloc);
-    ops.push(Op {
-        kind: OpKind::Upsert,
-        entity: Entity::Category,
-        id: 0x10,
-        second: 0,
-        fields: given,
-    })?;
-    ops.push(Op {
-        kind: OpKind::Delete,
-        entity: Entity::ProductTranslation,
-        id: 0x11,
-        second: 0x12,
-        fields: List::new(alloc),
-    })?;
-    let mut fields = List::new(alloc);
-    fields.push((1, Value::Int(2)))?;
-    Ok(Row {
-        key: KEY,
-        fields,
-        ops,
-    })
+fn is_operation(op: &Op, wanted: Operation) -> bool {
+    let (deletes, entity, id, second, fields) = wanted;
+    matches!(op.kind, OpKind::Delete) == deletes
+        && op.entity.number() == entity
+        && op.id == id
+        && op.second == second
+        && are_given(op.fields.as_slice(), fields)
 }
 
-/// Whether the bytes give the row, and what they give has these bytes.
+fn are_operations(ops: &[Op], wanted: &[Operation]) -> bool {
+    let mut holds = ops.len() == wanted.len();
+    for (op, want) in ops.iter().zip(wanted) {
+        holds &= is_operation(op, *want);
+    }
+    holds
+}
+
+/// Whether the bytes give that row, and the row has these bytes.
 #[tactic(auto, using(crate::proofs::Fitting::fits_kept))]
-fn are_kept(alloc: Global, row: &Row, bytes: &[u8]) -> Result<bool, DecodeFault> {
-    let read = decode_row(alloc, &row.key, bytes)?;
-    let written = encode_row(alloc, &read)?;
-    Ok(read == *row && written.as_slice() == bytes)
+fn is_kept(alloc: Global, bytes: &[u8], fields: Fields, ops: &[Operation]) -> bool {
+    let Ok(row) = decode_row(alloc, &KEY, bytes) else {
+        return false;
+    };
+    let Ok(written) = encode_row(alloc, &row) else {
+        return false;
+    };
+    row.key.order(&KEY).is_eq()
+        && are_fields(row.fields.as_slice(), fields)
+        && are_operations(row.ops.as_slice(), ops)
+        && written.as_slice() == bytes
 }
 
 fn is_malformed(alloc: Global, bytes: &[u8]) -> bool {
     matches!(decode_row(alloc, &KEY, bytes), Err(DecodeFault::Malformed))
 }
 
-#[test]
-fn keeps_rows(rt: HostRuntime) -> Result<(), Fail> {
-    let alloc = rt.alloc();
-    let bare = Row {
-        key: KEY,
-        fields: List::new(alloc),
-        ops: List::new(alloc),
+/// Whether each front of the bytes but the whole is malformed.
+fn are_fronts_malformed(alloc: Global, bytes: &[u8]) -> bool {
+    let mut holds = true;
+    for end in 0..bytes.len() {
+        holds &= is_malformed(alloc, &bytes[..end]);
+    }
+    holds
+}
+
+fn is_spoiled(alloc: Global, place: usize, byte: u8) -> bool {
+    let Ok(mut bytes) = Vec::from_slice(alloc, CHANGE) else {
+        return false;
     };
-    assert!(rt; are_kept(alloc, &bare, BARE)?, "a bare row");
-    assert!(rt; are_kept(alloc, &category(alloc)?, CATEGORY)?, "a category");
-    assert!(rt;
-        are_kept(alloc, &each_kind(alloc)?, EACH_KIND)?,
-        "each kind"
-    );
-    assert!(rt; are_kept(alloc, &change(alloc)?, CHANGE)?, "a change");
-    Ok(())
+    match bytes.get_mut(place) {
+        Some(spoiled) => *spoiled = byte,
+        None => return false,
+    }
+    is_malformed(alloc, &bytes)
 }
 
 #[test]
-fn refuses_what_is_no_row(rt: HostRuntime) -> Result<(), Fail> {
-    let alloc = rt.alloc();
-    for bytes in NO_ROWS {
-        assert!(rt; is_malformed(alloc, bytes), "{bytes:?}");
+fn keeps_rows(rt: HostRuntime) {
+    for (bytes, fields, ops) in ROWS {
+        assert!(rt; is_kept(rt.alloc(), bytes, fields, ops), "{bytes:?}");
+        assert!(rt;
+            are_fronts_malformed(rt.alloc(), bytes),
+            "fronts of {bytes:?}"
+        );
     }
-    for bytes in [BARE, CATEGORY, EACH_KIND, CHANGE] {
-        for end in 0..bytes.len() {
-            assert!(rt;
-                is_malformed(alloc, &bytes[..end]),
-                "{end} bytes of {bytes:?}"
-            );
-        }
+}
+
+#[test]
+fn refuses_what_is_no_row(rt: HostRuntime) {
+    for bytes in NO_ROWS {
+        assert!(rt; is_malformed(rt.alloc(), bytes), "{bytes:?}");
     }
     for (place, byte) in SPOILED {
-        let mut bytes = Vec::new(alloc);
-        bytes.extend_from_slice(CHANGE)?;
-        let Some(spoiled) = bytes.get_mut(place) else {
-            return Ok(assert!(rt; false, "no place {place}"));
-        };
-        *spoiled = byte;
-        assert!(rt; is_malformed(alloc, &bytes), "{byte} at {place}");
+        assert!(rt; is_spoiled(rt.alloc(), place, byte), "{byte} at {place}");
     }
-    Ok(())
 }

@@ -55,7 +55,7 @@ impl Clock for FixedClock {
 }
 
 /// Gives one moment always.
-#[derive(Clone, Copy, Debug)]
+#[derive(Clone, Copy)]
 pub struct StillClock {
     moment: Moment,
     ghost range: { IsMoment moment },

@@ -1,5 +1,5 @@
 //! The one answer of a call that failed.
 
 /// A call on an object that was handed in failed.
-#[derive(Clone, Copy, Debug, PartialEq, Eq)]
+#[derive(Clone, Copy)]
 pub struct Failed;

@@ -20,7 +20,7 @@ pub struct Kept {
 }
 
 /// Why a keeper didn't do what it was asked.
-#[derive(Debug, Drop, Clone, Copy, PartialEq, Eq)]
+#[derive(Drop, Clone, Copy)]
 pub enum KeepFault {
     /// The call failed, and the count of faults rose or stands at its last value.
     Failed,

@@ -21,7 +21,5 @@ mod numerals;
 mod parts;
 mod router;
 mod table;
-#[cfg(test)]
-mod tests;
 
 pub use router::{RouteFault, Routes, law_of_the_first_part};
