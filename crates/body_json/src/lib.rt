@@ -18,8 +18,6 @@ mod fields;
 mod laws;
 mod members;
 mod room;
-#[cfg(test)]
-mod tests;
 
 pub use batch::{MOST_OPERATIONS, read_batch};
 pub use fault::BodyFault;

@@ -17,8 +17,6 @@ mod keys;
 mod order;
 mod refusal;
 mod row;
-#[cfg(test)]
-mod tests;
 
 pub use done::done_text;
 pub use fault::{fault_status, fault_text};

@@ -10,8 +10,6 @@
 
 mod body;
 mod reply;
-#[cfg(test)]
-mod tests;
 
 pub use body::read_body;
 pub use body_json::BodyFault;

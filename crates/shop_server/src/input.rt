@@ -12,7 +12,7 @@ use std::marker::Model;
 const READ_SIZE: usize = 65_536;
 
 /// Why no more bytes could be read.
-#[derive(Clone, Copy, Debug, PartialEq, Eq)]
+#[derive(Clone, Copy)]
 pub(crate) enum FillFault {
     /// The read failed.
     ReadFault,

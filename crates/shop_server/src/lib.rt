@@ -35,6 +35,3 @@ pub use framing::Framing;
 pub use run::run_shop;
 pub use session::{Ended, serve};
 pub use status::Status;
-
-#[cfg(test)]
-mod tests;

@@ -6,7 +6,7 @@ ghost use Rattle.shop_server.specs.Run.{fatal_text};
 use shop_http::{HeadFault, not_built_response};
 
 /// Why what stands at the front of a stream isn't served.
-#[derive(Clone, Copy, Debug, PartialEq, Eq)]
+#[derive(Clone, Copy)]
 pub enum Refusal {
     /// It is a request whose answer isn't there yet.
     NotBuilt,

@@ -90,7 +90,7 @@ fn run<S: Source, K: Sink, P: Keeper + Drop, C: Clock>(
 /// reported on the sink: `rows R` and `number N`, a line each, or `damaged KEY RULE`. The keeper comes back, and holds what the
 /// accepted writes led to, where it tells. The clauses speak of what was read, written and kept in the end. That each request is
 /// answered before more is read is how the loop is built, and is tested with a client that waits; that a write is kept before it is
-/// answered is how the answerer is built, and no test shows it.
+/// answered is how the answerer is built, and is tested with a sink that fails at the answer.
 ///
 /// | Status | Where |
 /// |---|---|

@@ -15,7 +15,7 @@ use shop_outside::{Clock, Failed, Link};
 use std::alloc::Global;
 
 /// How a connection ended.
-#[derive(Clone, Copy, Debug, PartialEq, Eq)]
+#[derive(Clone, Copy)]
 pub enum Ended {
     /// The input ended between requests, or an answered request asked to close.
     Closed,

@@ -6,7 +6,7 @@ use crate::session::Ended;
 use shop_core::OpenFault;
 
 /// The status with which a program ends.
-#[derive(Clone, Copy, Debug, PartialEq, Eq)]
+#[derive(Clone, Copy)]
 pub struct Status {
     /// The exit status: 0 where all is done, else the number of a cause.
     pub number: u8,

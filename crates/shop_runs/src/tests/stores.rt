@@ -1,0 +1,301 @@
+//! Runs over a keeper that holds rows or damage, or of which a call fails; and over a line of which one does.
+use super::messages::*;
+use super::{EMPTY, Held, Run};
+use shop_defs::Entity;
+
+/// A category with its two defaults: active, at position 0.
+const PLAIN: &[u8] = b"\x01\x02\x02\x01\x03\x02\0\0\0\0\0\0\0\0\0\0\0\0";
+
+/// The same at position 4.
+const FOURTH: &[u8] = b"\x01\x02\x02\x01\x03\x02\0\0\0\0\0\0\0\x04\0\0\0\0";
+
+pub(crate) const TEN: Held = (Entity::Category, 0, 0x10, 0, PLAIN);
+
+const ELEVEN: Held = (Entity::Category, 0, 0x11, 0, PLAIN);
+
+pub(crate) const TWELVE: Held = (Entity::Category, 0, 0x12, 0, FOURTH);
+
+pub(crate) const THIRTEEN: Held = (Entity::Category, 0, 0x13, 0, PLAIN);
+
+/// Category 10 is there.
+const SOUND: Run<'static> = Run {
+    rows: &[TEN],
+    number: 1,
+    kept: &[TEN],
+    kept_number: 1,
+    ..EMPTY
+};
+
+/// What `check` reports of it.
+pub(crate) const REPORT: Run<'static> = Run {
+    words: &["check"],
+    output: &[b"rows 1\nnumber 1\n"],
+    ..SOUND
+};
+
+/// The keeper fails to keep a write: that changes nothing, and may be sent again.
+pub(crate) const FAILED_WRITES: [Run<'static>; 6] = [
+    Run {
+        says: "the third write fails",
+        failing_applies: &[3],
+        input: &[
+            WRITE,
+            WRITE,
+            WRITE_OTHER,
+            READ_OTHER,
+            WRITE_OTHER,
+            READ_OTHER,
+        ],
+        output: &[
+            DONE_1,
+            DONE_2,
+            STORE_FAILED,
+            MISSING_OTHER,
+            DONE_3,
+            SHOWN_OTHER,
+        ],
+        kept: &[TEN, ELEVEN],
+        kept_number: 3,
+        ..EMPTY
+    },
+    Run {
+        says: "the first write fails",
+        failing_applies: &[1],
+        input: &[WRITE, READ, WRITE, READ],
+        output: &[STORE_FAILED, MISSING, DONE_1, SHOWN],
+        kept: &[TEN],
+        kept_number: 1,
+        ..EMPTY
+    },
+    Run {
+        says: "each write fails",
+        failing_applies: &[1, 2, 3],
+        input: &[WRITE_OTHER, READ, WRITE, READ_OTHER, WRITE_OTHER],
+        output: &[
+            STORE_FAILED,
+            SHOWN,
+            STORE_FAILED,
+            MISSING_OTHER,
+            STORE_FAILED,
+        ],
+        ..SOUND
+    },
+    Run {
+        says: "a refused batch isn't kept, so the keeper's third call is the last",
+        number: 7,
+        failing_applies: &[3],
+        input: &[WRITE_OTHER, WRITE_TWO, WRITE_BAD, DELETE, READ_OTHER],
+        output: &[DONE_8, TWO_DONE_9, OUT_OF_RANGE, STORE_FAILED, SHOWN_OTHER],
+        kept: &[ELEVEN, TWELVE, THIRTEEN],
+        kept_number: 9,
+        ..EMPTY
+    },
+    Run {
+        says: "the first of a day fails",
+        failing_applies: &[1],
+        input: &[WRITE_OTHER, WRITE_TWO, WRITE_BAD, DELETE],
+        output: &[STORE_FAILED, TWO_DONE_1, OUT_OF_RANGE, NONE_TO_DELETE],
+        kept: &[TWELVE, THIRTEEN],
+        kept_number: 1,
+        ..EMPTY
+    },
+    Run {
+        says: "the second of a day fails",
+        failing_applies: &[2],
+        input: &[WRITE_OTHER, WRITE_TWO, WRITE_BAD, DELETE],
+        output: &[DONE_1, STORE_FAILED, OUT_OF_RANGE, DONE_2],
+        kept_number: 2,
+        ..EMPTY
+    },
+];
+
+/// Rows that are there, the end of the history, a keeper that fails when it is opened, and reports.
+pub(crate) const OPENED: [Run<'static>; 8] = [
+    Run {
+        says: "rows that are there, and one that is written",
+        input: &[READ, READ_OTHER, WRITE_OTHER, READ_OTHER],
+        output: &[SHOWN, MISSING_OTHER, DONE_2, SHOWN_OTHER],
+        kept: &[TEN, ELEVEN],
+        kept_number: 2,
+        ..SOUND
+    },
+    Run {
+        says: "no write is taken",
+        number: 1 << 62,
+        input: &[WRITE_BAD, WRITE, READ_OTHER],
+        output: &[OUT_OF_RANGE, HISTORY_FULL, MISSING_OTHER],
+        kept_number: 1 << 62,
+        ..EMPTY
+    },
+    Run {
+        says: "the last write",
+        number: (1 << 62) - 1,
+        input: &[WRITE_TWO, WRITE_TWO],
+        output: &[TWO_DONE_LAST, HISTORY_FULL],
+        kept: &[TWELVE, THIRTEEN],
+        kept_number: 1 << 62,
+        ..EMPTY
+    },
+    Run {
+        says: "no store is opened",
+        failing_load: 1,
+        input: &[READ],
+        status: 5,
+        ..SOUND
+    },
+    Run {
+        says: "none is opened to be checked",
+        words: &["check"],
+        failing_load: 1,
+        status: 5,
+        ..SOUND
+    },
+    Run {
+        says: "none is opened the next time",
+        failing_load: 2,
+        input: &[READ],
+        output: &[SHOWN],
+        checked: 5,
+        ..SOUND
+    },
+    REPORT,
+    Run {
+        says: "the report of the greatest number",
+        words: &["check"],
+        number: (1 << 63) - 1,
+        input: &[WRITE],
+        output: &[b"rows 0\nnumber 9223372036854775807\n"],
+        kept_number: (1 << 63) - 1,
+        ..EMPTY
+    },
+];
+
+/// Words that are no command line of the program.
+pub(crate) const WORDS: [&[&str]; 8] = [
+    &[],
+    &[""],
+    &["Run"],
+    &["runs"],
+    &["run", "run"],
+    &["serve"],
+    &["checks"],
+    &["check", "run"],
+];
+
+/// What other words are handed, of which nothing is read.
+pub(crate) const UNASKED: Run<'static> = Run {
+    says: "no words of the program",
+    input: &[WRITE_OTHER, READ],
+    status: 2,
+    ..SOUND
+};
+
+/// A write and a read. In pieces of 40 bytes the write is whole after 4 reads and the read after 5, and the sixth finds the end;
+/// the responses have 92 and 202 bytes, so that in pieces of 60 they take 2 and 4 writes.
+pub(crate) const WRITE_AND_READ: Run<'static> = Run {
+    says: "a read or a write fails",
+    input: &[WRITE, READ],
+    output: &[DONE_1, SHOWN],
+    ..EMPTY
+};
+
+/// Which read and which write of those fails, how many bytes are written, the status, and whether the row is kept: it is, though
+/// its response may be cut off.
+pub(crate) const FAULTS: [(u64, u64, usize, u8, bool); 14] = [
+    (1, 0, 0, 3, false),
+    (2, 0, 0, 3, false),
+    (3, 0, 0, 3, false),
+    (4, 0, 0, 3, false),
+    (5, 0, 92, 3, true),
+    (6, 0, 294, 3, true),
+    (7, 0, 294, 0, true),
+    (0, 1, 0, 4, true),
+    (0, 2, 60, 4, true),
+    (0, 3, 92, 4, true),
+    (0, 4, 152, 4, true),
+    (0, 5, 212, 4, true),
+    (0, 6, 272, 4, true),
+    (0, 7, 294, 0, true),
+];
+
+/// The same of a report: in pieces of 5 bytes its 16 take 4 writes.
+pub(crate) const CUT_REPORTS: [(u64, u64, usize, u8, bool); 5] = [
+    (0, 1, 0, 4, true),
+    (0, 2, 5, 4, true),
+    (0, 3, 10, 4, true),
+    (0, 4, 15, 4, true),
+    (0, 5, 16, 0, true),
+];
+
+/// Bytes of another format, a field that no category has, and a category without its position.
+const OF_NO_FORMAT: Held = (Entity::Category, 0, 0x10, 0, b"\x02");
+
+const OF_NO_KIND: Held = (Entity::Category, 0, 0x10, 0, b"\x01\x01\x04\x01\0\0\0\0");
+
+const LACKING: Held = (Entity::Category, 0, 0x10, 0, b"\x01\x01\x02\x01\0\0\0\0");
+
+/// Categories below one that isn't there, and below itself.
+const ORPHAN: Held = (
+    Entity::Category,
+    0,
+    0x11,
+    0,
+    b"\x01\x03\x01\x04\0\0\0\0\0\0\0\0\0\0\0\0\0\0\0\x12\x02\x01\x03\x02\0\0\0\0\0\0\0\0\0\0\0\0",
+);
+
+const OWN_PARENT: Held = (
+    Entity::Category,
+    0,
+    0x10,
+    0,
+    b"\x01\x03\x01\x04\0\0\0\0\0\0\0\0\0\0\0\0\0\0\0\x10\x02\x01\x03\x02\0\0\0\0\0\0\0\0\0\0\0\0",
+);
+
+/// Two products with one number.
+const PRODUCT: Held = (
+    Entity::Product,
+    0,
+    0x20,
+    0,
+    b"\x01\x02\x02\x03\0\0\0\x01A\x03\x01\0\0\0\0",
+);
+
+const TWIN: Held = (
+    Entity::Product,
+    0,
+    0x21,
+    0,
+    b"\x01\x02\x02\x03\0\0\0\x01A\x03\x01\0\0\0\0",
+);
+
+/// Damaged stores, and what `check` reports of each.
+pub(crate) const DAMAGED: [(&[Held], &[u8]); 7] = [
+    (
+        &[OF_NO_FORMAT],
+        b"damaged category/00000000000000000000000000000010 encoding\n",
+    ),
+    (
+        &[TEN, TEN],
+        b"damaged category/00000000000000000000000000000010 order\n",
+    ),
+    (
+        &[OF_NO_KIND],
+        b"damaged category/00000000000000000000000000000010 kind\n",
+    ),
+    (
+        &[LACKING],
+        b"damaged category/00000000000000000000000000000010 required\n",
+    ),
+    (
+        &[TEN, ORPHAN],
+        b"damaged category/00000000000000000000000000000011 reference\n",
+    ),
+    (
+        &[PRODUCT, TWIN],
+        b"damaged product/00000000000000000000000000000021 duplicate\n",
+    ),
+    (
+        &[OWN_PARENT],
+        b"damaged category/00000000000000000000000000000010 parent\n",
+    ),
+];
