@@ -213,16 +213,13 @@ fn is_shared(alloc: Global, amount: i64, bases: &[(u32, i64)], want: &[(u32, i64
     if !are_bases(bases) {
         return false;
     }
-    if amount < 0 {
-        return false;
+    if 0 <= amount && u128::from(amount.unsigned_abs()) <= total_of(bases) {
+        return match share(alloc, amount, bases) {
+            Ok(parts) => parts.as_slice() == want,
+            Err(_) => false,
+        };
     }
-    if u128::from(amount.unsigned_abs()) > total_of(bases) {
-        return false;
-    }
-    match share(alloc, amount, bases) {
-        Ok(parts) => parts.as_slice() == want,
-        Err(_) => false,
-    }
+    false
 }
 
 #[test]

@@ -7,9 +7,9 @@ ghost use Rattle.shop_core.specs.Plans.{Plans, encoded, AreKeptRows, FitTheForma
 ghost use Rattle.shop_core.specs.Steps.{IsBuilt};
 
 use shop_defs::{Delta, Key, List, NoMemory, PlanFault, Row};
-use shop_requests::Command;
 use shop_kept::encode_row;
 use shop_outside::Moment;
+use shop_requests::Command;
 use shop_rows::Rows;
 use shop_write::plan as plan_batch;
 use std::alloc::Global;

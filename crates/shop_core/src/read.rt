@@ -12,7 +12,10 @@ ghost use Rattle.shop_core.specs.Seeing.{Sees};
 
 use crate::answers::{AskFault, RowReply, RowSeen};
 use shop_chain::{Shown, chain, chain_of, shown_of};
-use shop_defs::{Broken, Copied, Entity, EntityInfo, Key, KeyForm, List, NoMemory, Row, Txt, Value, entity_info, entity_named};
+use shop_defs::{
+    Broken, Copied, Entity, EntityInfo, Key, KeyForm, List, NoMemory, Row, Txt, Value, entity_info,
+    entity_named,
+};
 use shop_requests::RowRead;
 use shop_rows::Rows;
 use std::alloc::Global;

@@ -6,7 +6,6 @@ use crate::{
     ReaderSource, Sink, Source, WriterSink,
 };
 use shop_defs::{Entity, Key, List};
-use std::alloc::Global;
 use std::io;
 use std::io::{ErrorKind, Read, Write};
 use std::test::Fail;
@@ -168,20 +167,6 @@ fn holds(keeper: &MemKeeper, wanted: &[(Key, u8)], number: u64) -> bool {
     holds
 }
 
-fn body(alloc: Global, byte: u8) -> Result<List<u8>, Fail> {
-    Ok(List::from_vec(vec![in alloc; byte]?))
-}
-
-/// The first load and the first change are to fail.
-fn make_keeper(alloc: Global, held: &[(Key, u8)]) -> Result<MemKeeper, Fail> {
-    let mut rows = List::new(alloc);
-    for (key, byte) in held {
-        rows.push((*key, body(alloc, *byte)?))?;
-    }
-    let kept = Kept { rows, number: 5 };
-    Ok(MemKeeper::new(alloc, kept, vec![in alloc; 1]?, vec![in alloc; 1]?))
-}
-
 #[test]
 fn adapters_call_again_where_they_are_interrupted(rt: HostRuntime) {
     let mut source = ReaderSource::new(Faulty { at: 0 });
@@ -209,11 +194,22 @@ fn lines_in_memory_fail_where_told(rt: HostRuntime) -> Result<(), Fail> {
 #[test]
 fn keepers_and_clocks_in_memory(rt: HostRuntime) -> Result<(), Fail> {
     for (held, left) in KEEPERS {
-        let mut keeper = make_keeper(rt.alloc(), held)?;
+        let mut rows = Vec::new(rt.alloc());
+        for (key, byte) in held {
+            rows.push((*key, List::from_vec(vec![in rt.alloc(); *byte]?)))?;
+        }
+        let rows = List::from_vec(rows);
+        let kept = Kept { rows, number: 5 };
+        let mut keeper = MemKeeper::new(
+            rt.alloc(),
+            kept,
+            vec![in rt.alloc(); 1]?,
+            vec![in rt.alloc(); 1]?,
+        );
         let changes = [
-            (KEY_2, Some(body(rt.alloc(), 20)?)),
+            (KEY_2, Some(List::from_vec(vec![in rt.alloc(); 20]?))),
             (KEY_3, None),
-            (KEY_4, Some(body(rt.alloc(), 41)?)),
+            (KEY_4, Some(List::from_vec(vec![in rt.alloc(); 41]?))),
         ];
         assert!(rt; matches!(keeper.apply(&changes, 6), Err(KeepFault::Failed)));
         assert!(rt; holds(&keeper, held, 5));

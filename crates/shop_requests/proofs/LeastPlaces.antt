@@ -1,6 +1,6 @@
 -- The place that is chosen among all given fields breaks its rule, and none with a lesser name does.
-use Rattle.std.proofs.Common.{◌≡◌, ◌≢◌, ℕ, ℤ, zero, suc, ◌<◌, ◌+◌, true, false, Bool, List, [], ◌∷◌, length, Option, Some, None, cond, if◌then◌else◌, ◌⊎◌, inl, inr, refl, sym, ap, subst, ◌∙◌, arith}
-use Rattle.std.specs.Prelude.{Contains, slice_index_or, is_some, is_none, Result, Err}
+use Rattle.std.proofs.Common.{◌≡◌, ℕ, ℤ, zero, suc, true, false, Bool, List, [], ◌∷◌, Option, Some, None, if◌then◌else◌, ◌⊎◌, inl, inr, refl, sym, ap, subst, ◌∙◌, arith}
+use Rattle.std.specs.Prelude.{Contains, is_some, is_none}
 use Rattle.std.specs.List.{fold, AllByRecursion}
 use Rattle.std.specs.Option.{option_map}
 use Rattle.std.specs.Cmp.{IsStrictWeakOrder}
@@ -11,7 +11,6 @@ use Rattle.std.proofs.lemmas.List.MinMax.{ranks_by}
 use Rattle.shop_defs.specs.declared.entity.Entity.{Entity}
 use Rattle.shop_requests.specs.declared.raw.Raw.{Raw}
 use Rattle.shop_requests.specs.declared.raw.RawOp.{RawOp}
-use Rattle.shop_defs.specs.declared.op.Op.{Op}
 use Rattle.shop_defs.specs.declared.broken.Broken.{Broken}
 use Rattle.shop_defs.specs.declared.broken.Broken.TheVariants as B
 use Rattle.shop_defs.specs.declared.refused.PlanFault.{PlanFault}
@@ -20,9 +19,8 @@ use Rattle.shop_defs.specs.declared.table.EntityInfo.{EntityInfo}
 use Rattle.shop_defs.specs.declared.table.FieldInfo.{FieldInfo}
 use Rattle.shop_requests.specs.declared.check.ValueFault.{ValueFault}
 use Rattle.shop_requests.specs.declared.check.ValueFault.TheVariants.{WrongKind, OutOfRange}
-use Rattle.shop_defs.specs.Tables.{field_with_name, info_named}
-use Rattle.shop_requests.specs.Operations.{Given, lesser, least_name, lesser_beyond, least_beyond, fault_at, is_kind, value_beyond, is_unknown, is_wrong, wrong_second, unknown_field, wrong_kind, out_of_range, or_else, refusal, read, unless_refused, if_writable, reading, reading_as}
-use Rattle.shop_requests.specs.Places.{IsGiven, IsUnknownPlace, IsWrongPlace, IsBeyondPlace, IsOutOfRange, IsBelow, IsLeastPlace, IsKept, IsFirstBroken, IsUnbroken, NamesFirst, KeepsRules, written_by}
+use Rattle.shop_requests.specs.Operations.{Given, lesser, least_name, lesser_beyond, least_beyond, fault_at, is_kind, value_beyond, is_unknown, is_wrong, wrong_second, unknown_field, wrong_kind, out_of_range, or_else, refusal}
+use Rattle.shop_requests.specs.Places.{IsUnknownPlace, IsWrongPlace, IsBeyondPlace, IsOutOfRange, IsLeastPlace, IsKept, IsFirstBroken, IsUnbroken, NamesFirst, KeepsRules, written_by}
 use Rattle.shop_requests.proofs.ReadFits.{least_none, beyond_none, none_of, unmapped}
 
 -- ---- elements

@@ -1,6 +1,6 @@
 //! The paths of the interface.
-use shop_requests::Action;
 use shop_http::Method2;
+use shop_requests::Action;
 
 /// What a path asks for.
 #[derive(Clone, Copy)]

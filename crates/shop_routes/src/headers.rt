@@ -6,8 +6,8 @@ ghost use Rattle.shop_routes.specs.DigitTexts.{front_of};
 ghost use Rattle.shop_routes.specs.Settings.{bad_header, flag_of, headers_of, said};
 
 use crate::numerals::read_front;
-use shop_requests::read_id;
 use shop_http::{Given, Head};
+use shop_requests::read_id;
 
 /// What the headers say.
 #[derive(Clone, Copy)]

@@ -18,8 +18,8 @@ use crate::parts::{Numbers, read_numbers, text_part};
 use crate::table::full_router;
 use matchit::{Match, Params, Router};
 use shop_defs::{NoMemory, Txt};
-use shop_requests::{Query, Route, RowRead};
 use shop_http::{Head, Method2};
+use shop_requests::{Query, Route, RowRead};
 use std::alloc::Global;
 use std::str::from_utf8;
 

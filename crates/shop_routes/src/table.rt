@@ -6,8 +6,8 @@ ghost use Rattle.shop_routes.specs.Filling.{router_of, is_free, scan_is_free, ta
 use crate::endpoint::{Asked, Endpoint};
 use matchit::{InsertError, Router};
 use shop_defs::NoMemory;
-use shop_requests::Action;
 use shop_http::Method2;
+use shop_requests::Action;
 use std::alloc::Global;
 
 /// The method, the path, and what is asked for.

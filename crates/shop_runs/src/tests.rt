@@ -1,17 +1,25 @@
 //! What no clause says and the built program can't show: runs whose bytes come in pieces, in which a call fails, or over a store
-//! that holds rows already; and replies to requests that the program doesn't answer yet.
-use crate::tests::replies::{REPLIES, REPLIES_WITH, is_replied, is_row_printed, reply_with};
+//! that holds rows already; and replies and calls that no request of the program leads to yet.
+use crate::tests::calls::{
+    ASKED, COPIED, KINDS, REACHED, is_copied, is_found, is_kind, is_left, is_reached, is_taken_out,
+};
+use crate::tests::damage::{
+    AMONG_OTHERS, CART_LINES, CART_LINES_TO_100, DAMAGED_BYTES, DAMAGED_KEYS, FILTERS,
+    FILTERS_AND_A_LOOP, FILTERS_TO_64,
+};
+use crate::tests::replies::{REPLIES, REPLIES_WITH, is_replied, is_replied_with, is_row_printed};
 use crate::tests::stores::{
-    CUT_REPORTS, DAMAGED, FAILED_WRITES, FAULTS, OPENED, REPORT, TEN, UNASKED, WORDS,
-    WRITE_AND_READ,
+    CUT_REPORTS, FAILED_WRITES, FAULTS, OPENED, REPORT, TEN, UNASKED, WORDS, WRITE_AND_READ,
 };
 use crate::tests::streams::STREAMS;
-use shop_defs::{Entity, Key, List};
+use shop_defs::{Entity, Key, List, NoMemory};
 use shop_outside::{FixedClock, Kept, MemKeeper, MemSink, MemSource};
 use shop_server::run_shop;
 use std::alloc::Global;
 use std::test::Fail;
 
+mod calls;
+mod damage;
 mod messages;
 mod replies;
 mod stores;
@@ -148,6 +156,14 @@ fn run_over(
     Ok((sink, status.number, keeper))
 }
 
+/// Whether it holds; without memory it doesn't.
+fn is_well(holds: Result<bool, NoMemory>) -> bool {
+    match holds {
+        Ok(holds) => holds,
+        Err(_) => false,
+    }
+}
+
 /// Whether a run over this line comes to what is said of it.
 fn is_as_said(alloc: Global, run: &Run<'_>, line: &Line) -> Result<bool, Fail> {
     let input = joined(alloc, run.input)?;
@@ -165,37 +181,18 @@ fn is_as_said(alloc: Global, run: &Run<'_>, line: &Line) -> Result<bool, Fail> {
     )
 }
 
-#[test]
-fn requests_in_pieces(rt: HostRuntime) -> Result<(), Fail> {
-    for (read_piece, write_piece) in [(100_000, 100_000), (1, 100_000), (7, 3), (100_000, 1)] {
-        let line = Line {
-            read_piece,
-            write_piece,
-            ..WHOLE
-        };
-        for run in &STREAMS {
-            assert!(rt;
-                is_as_said(rt.alloc(), run, &line)?,
-                "{}, by {read_piece}",
-                run.says
-            );
-        }
-    }
-    Ok(())
-}
-
-/// Whether a damaged store isn't served, and `check` reports this of it.
-fn is_damaged(alloc: Global, rows: &[Held], report: &[u8]) -> Result<bool, Fail> {
+/// Whether `check` reports this of a store, and it is served only where it is sound.
+fn is_checked(alloc: Global, rows: &[Held], report: &str, status: u8) -> Result<bool, Fail> {
     let served = Run {
         rows,
         kept: rows,
-        status: 7,
-        checked: 7,
+        status,
+        checked: status,
         ..EMPTY
     };
     let reported = Run {
         words: &["check"],
-        output: &[report],
+        output: &[report.as_bytes()],
         ..served
     };
     Ok(is_as_said(alloc, &served, &WHOLE)? && is_as_said(alloc, &reported, &WHOLE)?)
@@ -225,41 +222,110 @@ fn is_cut(
 }
 
 #[test]
-fn stores_and_failing_calls(rt: HostRuntime) -> Result<(), Fail> {
+fn requests_in_pieces_and_failing_calls(rt: HostRuntime) -> Result<(), Fail> {
     let alloc = rt.alloc();
-    for run in FAILED_WRITES.iter().chain(&OPENED) {
-        assert!(rt; is_as_said(alloc, run, &WHOLE)?, "{}", run.says);
-    }
-    for words in WORDS {
-        assert!(rt;
-            is_as_said(alloc, &Run { words, ..UNASKED }, &WHOLE)?,
-            "{words:?}"
-        );
-    }
-    for (rows, report) in DAMAGED {
-        assert!(rt; is_damaged(alloc, rows, report)?, "{report:?}");
+    for (read_piece, write_piece) in [(100_000, 100_000), (1, 100_000), (7, 3), (100_000, 1)] {
+        let line = Line {
+            read_piece,
+            write_piece,
+            ..WHOLE
+        };
+        for run in &STREAMS {
+            assert!(rt;
+                is_as_said(alloc, run, &line)?,
+                "{}, by {read_piece}",
+                run.says
+            );
+        }
     }
     for fault in &FAULTS {
-        assert!(rt; is_cut(alloc, &WRITE_AND_READ, 60, fault)?, "{fault:?}");
+        assert!(rt;
+            is_cut(alloc, &WRITE_AND_READ, 60, fault)?,
+            "read {}, write {}",
+            fault.0,
+            fault.1
+        );
     }
     for fault in &CUT_REPORTS {
-        assert!(rt; is_cut(alloc, &REPORT, 5, fault)?, "{fault:?}");
+        assert!(rt;
+            is_cut(alloc, &REPORT, 5, fault)?,
+            "read {}, write {}",
+            fault.0,
+            fault.1
+        );
     }
     Ok(())
 }
 
 #[test]
-fn replies_to_come(rt: HostRuntime) -> Result<(), Fail> {
+fn runs_over_stores(rt: HostRuntime) -> Result<(), Fail> {
+    let alloc = rt.alloc();
+    for table in [FAILED_WRITES.as_slice(), &OPENED] {
+        for run in table {
+            assert!(rt; is_as_said(alloc, run, &WHOLE)?, "{}", run.says);
+        }
+    }
+    for words in WORDS {
+        assert!(rt; is_as_said(alloc, &Run { words, ..UNASKED }, &WHOLE)?);
+    }
+    for table in [DAMAGED_BYTES.as_slice(), &DAMAGED_KEYS, &AMONG_OTHERS] {
+        for (rows, report, status) in table {
+            assert!(rt; is_checked(alloc, rows, report, *status)?, "not {report}");
+        }
+    }
+    for (rows, report, status) in [
+        (FILTERS_TO_64.as_slice(), "rows 65\nnumber 0\n", 0),
+        (
+            &FILTERS,
+            "damaged stream_filter/00000000000000000000000000000041 limit\n",
+            7,
+        ),
+        (
+            &FILTERS_AND_A_LOOP,
+            "damaged stream_filter/00000000000000000000000000000041 parent\n",
+            7,
+        ),
+        (&CART_LINES_TO_100, "rows 101\nnumber 0\n", 0),
+        (
+            &CART_LINES,
+            "damaged cart_line/00000000000000000000000000000065 limit\n",
+            7,
+        ),
+    ] {
+        assert!(rt; is_checked(alloc, rows, report, status)?, "not {report}");
+    }
+    Ok(())
+}
+
+#[test]
+fn replies_and_calls_to_come(rt: HostRuntime) -> Result<(), Fail> {
     let alloc = rt.alloc();
     for (reply, status, body) in REPLIES {
         assert!(rt; is_replied(alloc, &reply, status, body), "not {body}");
     }
     for (number, status, body) in REPLIES_WITH {
+        assert!(rt; is_replied_with(alloc, number, status, body), "not {body}");
+    }
+    assert!(rt; is_well(is_row_printed(alloc)));
+    for (read, status, body) in &COPIED {
+        assert!(rt; is_copied(alloc, read, *status, body)?, "not {body}");
+    }
+    for (asked, want) in &ASKED {
+        assert!(rt; is_well(is_found(alloc, *asked, want)), "not {want:?}");
+    }
+    assert!(rt; is_well(is_taken_out(alloc)));
+    for (place, gone, emptied, changes) in &REACHED {
         assert!(rt;
-            is_replied(alloc, &reply_with(alloc, number)?, status, body),
-            "not {body}"
+            is_well(is_reached(alloc, place, gone, emptied, *changes)),
+            "of {}",
+            place.1
         );
     }
-    assert!(rt; is_row_printed(alloc)?);
+    for (entity, presets) in [(Entity::Category, 2), (Entity::Cart, 3), (Entity::Tax, 0)] {
+        assert!(rt; is_well(is_left(alloc, entity, presets)), "not {presets}");
+    }
+    for (entity, second, bytes, want) in &KINDS {
+        assert!(rt; is_kind(alloc, *entity, *second, bytes, *want), "{bytes:?}");
+    }
     Ok(())
 }

@@ -2,9 +2,9 @@
 ghost use Rattle.std.specs.Prelude.{◌≡◌, None};
 ghost use Rattle.shop_server.specs.declared.turned.TurnedAway.TheVariants as turned;
 
-use shop_requests::LineFault;
 use shop_http::Method2;
 use shop_json::BodyFault;
+use shop_requests::LineFault;
 use shop_routes::RouteFault;
 
 /// Why a request asks nothing of a shop.

@@ -198,7 +198,7 @@ fn listed(alloc: Global) -> Result<List<RowReply>, NoMemory> {
     Ok(rows)
 }
 
-pub(crate) fn reply_with(alloc: Global, number: u8) -> Result<Reply, NoMemory> {
+fn reply_with(alloc: Global, number: u8) -> Result<Reply, NoMemory> {
     match number {
         3 => Ok(Reply::Row(shown_with(alloc, false)?)),
         4 => Ok(Reply::Row(shown_with(alloc, true)?)),
@@ -214,6 +214,14 @@ pub(crate) fn reply_with(alloc: Global, number: u8) -> Result<Reply, NoMemory> {
 pub(crate) fn is_replied(alloc: Global, reply: &Reply, status: u16, body: &str) -> bool {
     match reply_text(alloc, reply) {
         Ok((found, text)) => found == status && text.as_slice() == body.as_bytes(),
+        Err(_) => false,
+    }
+}
+
+/// Whether the reply of that number has this status and this body.
+pub(crate) fn is_replied_with(alloc: Global, number: u8, status: u16, body: &str) -> bool {
+    match reply_with(alloc, number) {
+        Ok(reply) => is_replied(alloc, &reply, status, body),
         Err(_) => false,
     }
 }

@@ -34,7 +34,7 @@ pub(crate) const REPORT: Run<'static> = Run {
 };
 
 /// The keeper fails to keep a write: that changes nothing, and may be sent again.
-pub(crate) const FAILED_WRITES: [Run<'static>; 6] = [
+pub(crate) static FAILED_WRITES: [Run<'static>; 6] = [
     Run {
         says: "the third write fails",
         failing_applies: &[3],
@@ -110,7 +110,7 @@ pub(crate) const FAILED_WRITES: [Run<'static>; 6] = [
 ];
 
 /// Rows that are there, the end of the history, a keeper that fails when it is opened, and reports.
-pub(crate) const OPENED: [Run<'static>; 8] = [
+pub(crate) static OPENED: [Run<'static>; 8] = [
     Run {
         says: "rows that are there, and one that is written",
         input: &[READ, READ_OTHER, WRITE_OTHER, READ_OTHER],
@@ -201,7 +201,7 @@ pub(crate) const WRITE_AND_READ: Run<'static> = Run {
 
 /// Which read and which write of those fails, how many bytes are written, the status, and whether the row is kept: it is, though
 /// its response may be cut off.
-pub(crate) const FAULTS: [(u64, u64, usize, u8, bool); 14] = [
+pub(crate) static FAULTS: [(u64, u64, usize, u8, bool); 14] = [
     (1, 0, 0, 3, false),
     (2, 0, 0, 3, false),
     (3, 0, 0, 3, false),
@@ -219,83 +219,10 @@ pub(crate) const FAULTS: [(u64, u64, usize, u8, bool); 14] = [
 ];
 
 /// The same of a report: in pieces of 5 bytes its 16 take 4 writes.
-pub(crate) const CUT_REPORTS: [(u64, u64, usize, u8, bool); 5] = [
+pub(crate) static CUT_REPORTS: [(u64, u64, usize, u8, bool); 5] = [
     (0, 1, 0, 4, true),
     (0, 2, 5, 4, true),
     (0, 3, 10, 4, true),
     (0, 4, 15, 4, true),
     (0, 5, 16, 0, true),
-];
-
-/// Bytes of another format, a field that no category has, and a category without its position.
-const OF_NO_FORMAT: Held = (Entity::Category, 0, 0x10, 0, b"\x02");
-
-const OF_NO_KIND: Held = (Entity::Category, 0, 0x10, 0, b"\x01\x01\x04\x01\0\0\0\0");
-
-const LACKING: Held = (Entity::Category, 0, 0x10, 0, b"\x01\x01\x02\x01\0\0\0\0");
-
-/// Categories below one that isn't there, and below itself.
-const ORPHAN: Held = (
-    Entity::Category,
-    0,
-    0x11,
-    0,
-    b"\x01\x03\x01\x04\0\0\0\0\0\0\0\0\0\0\0\0\0\0\0\x12\x02\x01\x03\x02\0\0\0\0\0\0\0\0\0\0\0\0",
-);
-
-const OWN_PARENT: Held = (
-    Entity::Category,
-    0,
-    0x10,
-    0,
-    b"\x01\x03\x01\x04\0\0\0\0\0\0\0\0\0\0\0\0\0\0\0\x10\x02\x01\x03\x02\0\0\0\0\0\0\0\0\0\0\0\0",
-);
-
-/// Two products with one number.
-const PRODUCT: Held = (
-    Entity::Product,
-    0,
-    0x20,
-    0,
-    b"\x01\x02\x02\x03\0\0\0\x01A\x03\x01\0\0\0\0",
-);
-
-const TWIN: Held = (
-    Entity::Product,
-    0,
-    0x21,
-    0,
-    b"\x01\x02\x02\x03\0\0\0\x01A\x03\x01\0\0\0\0",
-);
-
-/// Damaged stores, and what `check` reports of each.
-pub(crate) const DAMAGED: [(&[Held], &[u8]); 7] = [
-    (
-        &[OF_NO_FORMAT],
-        b"damaged category/00000000000000000000000000000010 encoding\n",
-    ),
-    (
-        &[TEN, TEN],
-        b"damaged category/00000000000000000000000000000010 order\n",
-    ),
-    (
-        &[OF_NO_KIND],
-        b"damaged category/00000000000000000000000000000010 kind\n",
-    ),
-    (
-        &[LACKING],
-        b"damaged category/00000000000000000000000000000010 required\n",
-    ),
-    (
-        &[TEN, ORPHAN],
-        b"damaged category/00000000000000000000000000000011 reference\n",
-    ),
-    (
-        &[PRODUCT, TWIN],
-        b"damaged product/00000000000000000000000000000021 duplicate\n",
-    ),
-    (
-        &[OWN_PARENT],
-        b"damaged category/00000000000000000000000000000010 parent\n",
-    ),
 ];

@@ -3,7 +3,7 @@ use super::messages::*;
 use super::stores::{TEN, THIRTEEN, TWELVE};
 use super::{EMPTY, Run};
 
-pub(crate) const STREAMS: [Run<'static>; 17] = [
+pub(crate) static STREAMS: [Run<'static>; 17] = [
     EMPTY,
     Run {
         says: "a write is read back",
