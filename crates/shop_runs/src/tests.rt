@@ -1,8 +1,6 @@
 //! What no clause says and the built program can't show: runs whose bytes come in pieces, in which a call fails, or over a store
 //! that holds rows already; and replies and calls that no request of the program leads to yet.
-use crate::tests::calls::{
-    ASKED, COPIED, KINDS, REACHED, is_copied, is_found, is_kind, is_left, is_reached, is_taken_out,
-};
+use crate::tests::calls::{COPIED, KINDS, REACHED, is_copied, is_kind, is_left, is_reached};
 use crate::tests::damage::{
     AMONG_OTHERS, CART_LINES, CART_LINES_TO_100, DAMAGED_BYTES, DAMAGED_KEYS, FILTERS,
     FILTERS_AND_A_LOOP, FILTERS_TO_64,
@@ -201,7 +199,7 @@ fn is_checked(alloc: Global, rows: &[Held], report: &str, status: u8) -> Result<
 /// Whether a run, of which a read or a write fails, comes to this.
 fn is_cut(
     alloc: Global,
-    run: &Run<'_>,
+    run: &Run<'static>,
     write_piece: usize,
     fault: &(u64, u64, usize, u8, bool),
 ) -> Result<bool, Fail> {
@@ -310,10 +308,6 @@ fn replies_and_calls_to_come(rt: HostRuntime) -> Result<(), Fail> {
     for (read, status, body) in &COPIED {
         assert!(rt; is_copied(alloc, read, *status, body)?, "not {body}");
     }
-    for (asked, want) in &ASKED {
-        assert!(rt; is_well(is_found(alloc, *asked, want)), "not {want:?}");
-    }
-    assert!(rt; is_well(is_taken_out(alloc)));
     for (place, gone, emptied, changes) in &REACHED {
         assert!(rt;
             is_well(is_reached(alloc, place, gone, emptied, *changes)),

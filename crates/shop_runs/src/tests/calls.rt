@@ -1,5 +1,5 @@
-//! Calls that the program doesn't make, or not over such rows: look-ups over several versions, what operations reach, replays,
-//! the kinds of rows that aren't served yet, and reads that are copied.
+//! Calls that the program doesn't make: what operations reach, replays, the kinds of rows that aren't served yet, and reads that
+//! are copied.
 ghost use Rattle.std.specs.Prelude.{◌≡◌, IfOk};
 ghost use Rattle.shop_core.specs.Requests.{IsBuiltRequest};
 
@@ -7,165 +7,13 @@ use super::replies::is_replied;
 use super::{EMPTY, Held, Run, key_of};
 use shop_check::is_of_its_kind;
 use shop_core::{Request, open_shop};
-use shop_defs::{
-    Delta, Entity, Key, List, NoMemory, OWNER_LIMITS, Op, OpKind, PlanFault, Row, Txt, op_fits,
-};
+use shop_defs::{Delta, Entity, Key, List, NoMemory, Op, OpKind, PlanFault, Row, Txt, op_fits};
 use shop_kept::decode_row;
 use shop_requests::RowRead;
 use shop_rows::Rows;
 use shop_write::{plan_op, reach};
 use std::alloc::Global;
 use std::test::Fail;
-
-/// Rows in the order of their keys: in versions 0 and 7 categories below others, products with numbers, and what refers to them.
-static LINES: [Held; 21] = [
-    (Entity::Category, 0, 1, 0, b"\x01\0\0\0\0\0"),
-    (
-        Entity::Category,
-        0,
-        2,
-        0,
-        b"\x01\x01\x01\x04\0\0\0\0\0\0\0\0\0\0\0\0\0\0\0\x01\0\0\0\0",
-    ),
-    (
-        Entity::Category,
-        0,
-        3,
-        0,
-        b"\x01\x01\x01\x04\0\0\0\0\0\0\0\0\0\0\0\0\0\0\0\x01\0\0\0\0",
-    ),
-    (
-        Entity::Category,
-        7,
-        2,
-        0,
-        b"\x01\x01\x01\x04\0\0\0\0\0\0\0\0\0\0\0\0\0\0\0\x03\0\0\0\0",
-    ),
-    (
-        Entity::Category,
-        7,
-        3,
-        0,
-        b"\x01\x01\x01\x04\0\0\0\0\0\0\0\0\0\0\0\0\0\0\0\x01\0\0\0\0",
-    ),
-    (
-        Entity::CategoryTranslation,
-        0,
-        1,
-        9,
-        b"\x01\x01\x01\x03\0\0\0\x05Lamps\0\0\0\0",
-    ),
-    (
-        Entity::Product,
-        0,
-        1,
-        0,
-        b"\x01\x01\x02\x03\0\0\0\x03A-1\0\0\0\0",
-    ),
-    (
-        Entity::Product,
-        0,
-        2,
-        0,
-        b"\x01\x01\x02\x03\0\0\0\x03A-1\0\0\0\0",
-    ),
-    (
-        Entity::Product,
-        0,
-        3,
-        0,
-        b"\x01\x01\x02\x03\0\0\0\x03A-2\0\0\0\0",
-    ),
-    (
-        Entity::Product,
-        0,
-        4,
-        0,
-        b"\x01\x01\x02\x03\0\0\0\x03A-1\0\0\0\0",
-    ),
-    (
-        Entity::Product,
-        7,
-        5,
-        0,
-        b"\x01\x01\x02\x03\0\0\0\x03A-1\0\0\0\0",
-    ),
-    (Entity::ProductCategory, 0, 3, 1, b"\x01\0\0\0\0\0"),
-    (Entity::ProductCategory, 7, 3, 1, b"\x01\0\0\0\0\0"),
-    (
-        Entity::StreamFilter,
-        0,
-        4,
-        0,
-        b"\x01\x01\x01\x04\0\0\0\0\0\0\0\0\0\0\0\0\0\0\0\x08\0\0\0\0",
-    ),
-    (
-        Entity::StreamFilter,
-        0,
-        5,
-        0,
-        b"\x01\x01\x01\x04\0\0\0\0\0\0\0\0\0\0\0\0\0\0\0\x08\0\0\0\0",
-    ),
-    (
-        Entity::StreamFilter,
-        0,
-        6,
-        0,
-        b"\x01\x01\x08\x04\0\0\0\0\0\0\0\0\0\0\0\0\0\0\0\x01\0\0\0\0",
-    ),
-    (Entity::Promotion, 0, 1, 0, b"\x01\0\0\0\0\0"),
-    (Entity::Promotion, 0, 2, 0, b"\x01\0\0\0\0\0"),
-    (Entity::OrderLine, 0, 4, 1, b"\x01\0\0\0\0\0"),
-    (Entity::OrderLine, 0, 4, 2, b"\x01\0\0\0\0\0"),
-    (Entity::OrderLine, 0, 5, 1, b"\x01\0\0\0\0\0"),
-];
-
-/// What is looked up.
-#[derive(Clone, Copy)]
-pub(crate) enum Asked {
-    /// The ids of the rows whose parent is the one at the key, of its entity and version.
-    Children(Entity, u128, u128),
-    /// The ids of the live rows that refer to the row.
-    Referrers(Entity, u128),
-    /// The ids of the rows with the same unique fields.
-    Twins(Entity, u128, u128),
-    /// How many rows there are of the entity.
-    Count(Entity),
-    /// How many live rows the owner has, by the line of the limits.
-    Owned(usize, u128),
-}
-
-/// What is asked of those rows, and the ids or the number that must come of it.
-pub(crate) static ASKED: [(Asked, &[u128]); 25] = [
-    (Asked::Children(Entity::Category, 0, 1), &[2, 3]),
-    (Asked::Children(Entity::Category, 0, 3), &[]),
-    (Asked::Children(Entity::Category, 7, 1), &[3]),
-    (Asked::Children(Entity::Category, 7, 3), &[2]),
-    // What refers to category 1 beside categories isn't below it.
-    (Asked::Children(Entity::StreamFilter, 0, 1), &[]),
-    (Asked::Children(Entity::ProductCategory, 0, 1), &[]),
-    (Asked::Referrers(Entity::Category, 1), &[2, 3, 1, 3, 6]),
-    (Asked::Referrers(Entity::Category, 3), &[]),
-    (Asked::Referrers(Entity::Product, 3), &[3]),
-    (Asked::Referrers(Entity::Stream, 8), &[4, 5]),
-    // The lines of an order are never looked at by a delete.
-    (Asked::Referrers(Entity::Order, 4), &[]),
-    (Asked::Twins(Entity::Product, 0, 1), &[2, 4]),
-    (Asked::Twins(Entity::Product, 0, 4), &[1, 2]),
-    (Asked::Twins(Entity::Product, 0, 3), &[]),
-    (Asked::Twins(Entity::Product, 7, 5), &[]),
-    // No code is no twin, and categories have no unique fields.
-    (Asked::Twins(Entity::Promotion, 0, 1), &[]),
-    (Asked::Twins(Entity::Category, 0, 2), &[]),
-    (Asked::Count(Entity::Category), &[5]),
-    (Asked::Count(Entity::Product), &[5]),
-    (Asked::Count(Entity::Language), &[0]),
-    (Asked::Count(Entity::OrderLine), &[3]),
-    (Asked::Owned(0, 8), &[2]),
-    (Asked::Owned(0, 9), &[0]),
-    (Asked::Owned(4, 4), &[2]),
-    (Asked::Owned(4, 6), &[0]),
-];
 
 fn key(entity: Entity, version: u128, id: u128, second: u128) -> Key {
     Key {
@@ -196,92 +44,6 @@ fn put_backwards(alloc: Global, lines: &[Held]) -> Result<Rows, NoMemory> {
         put(alloc, &mut rows, held)?;
     }
     Ok(rows)
-}
-
-/// The same rows, made at once of a copy.
-fn made_at_once(alloc: Global, rows: &Rows) -> Result<Rows, NoMemory> {
-    let copy = rows.copy(alloc)?;
-    Rows::from_ascending(alloc, copy.into_rows().into_vec())
-}
-
-fn have_ids(keys: &List<Key>, ids: &[u128]) -> bool {
-    keys.len() == ids.len() && keys.iter().zip(ids).all(|(key, id)| key.id == *id)
-}
-
-fn has_twins(alloc: Global, rows: &Rows, key: &Key, want: &[u128]) -> Result<bool, NoMemory> {
-    match rows.get(key) {
-        Some(row) => Ok(
-            have_ids(&rows.twins(alloc, row)?, want)
-                && rows.twin(row).map(|twin| twin.key.id) == want.first().copied(),
-        ),
-        None => Ok(false),
-    }
-}
-
-fn has_owned(rows: &Rows, line: usize, owner: u128, want: &[u128]) -> bool {
-    match OWNER_LIMITS.get(line) {
-        Some(limit) => want == [rows.count_owned(limit, owner) as u128].as_slice(),
-        None => false,
-    }
-}
-
-fn finds(alloc: Global, rows: &Rows, asked: Asked, want: &[u128]) -> Result<bool, NoMemory> {
-    match asked {
-        Asked::Children(entity, version, parent) => Ok(
-            rows.children_of(alloc, entity, version, parent)?.as_slice() == want
-                && have_ids(&rows.child_keys(alloc, entity, version, parent)?, want),
-        ),
-        Asked::Referrers(entity, id) => {
-            let keys = rows.referrers_of(alloc, &key(entity, 7, id, 0))?;
-            Ok(have_ids(&keys, want))
-        }
-        Asked::Twins(entity, version, id) => {
-            has_twins(alloc, rows, &key(entity, version, id, 0), want)
-        }
-        Asked::Count(entity) => Ok(want == [rows.count(entity) as u128].as_slice()),
-        Asked::Owned(line, owner) => Ok(has_owned(rows, line, owner, want)),
-    }
-}
-
-/// Whether a walk by the next row meets each row once, in order.
-fn is_walk(rows: &Rows) -> bool {
-    let mut at = key(Entity::Language, 0, 0, 0);
-    for held in &LINES {
-        match rows.after(&at) {
-            Some(row) if row.key == key_of(held) => at = row.key,
-            _ => return false,
-        }
-    }
-    rows.after(&at).is_none() && rows.len() == LINES.len() && !rows.is_empty()
-}
-
-/// Whether that is found in the rows, put one by one and made at once.
-pub(crate) fn is_found(alloc: Global, asked: Asked, want: &[u128]) -> Result<bool, NoMemory> {
-    let rows = put_backwards(alloc, &LINES)?;
-    let again = made_at_once(alloc, &rows)?;
-    Ok(
-        is_walk(&rows)
-            && is_walk(&again)
-            && finds(alloc, &rows, asked, want)?
-            && finds(alloc, &again, asked, want)?,
-    )
-}
-
-/// Whether a row that is taken out is found no longer, and nothing goes where a change takes out one that isn't there.
-pub(crate) fn is_taken_out(alloc: Global) -> Result<bool, NoMemory> {
-    let mut rows = put_backwards(alloc, &LINES)?;
-    let gone = key(Entity::Product, 0, 2, 0);
-    let missing = key(Entity::Product, 0, 9, 0);
-    let delta = Delta {
-        changes: List::from_vec(vec![in alloc; (gone, None), (missing, None)]?),
-    };
-    rows.reserve(&delta)?;
-    rows.apply(delta);
-    Ok(
-        rows.get(&gone).is_none()
-            && rows.len() == LINES.len() - 1
-            && finds(alloc, &rows, Asked::Twins(Entity::Product, 0, 1), &[4])?,
-    )
 }
 
 /// Rows with the ids that their fields name.
@@ -472,7 +234,7 @@ pub(crate) fn is_reached(
     emptied: &[Place],
     changes: Option<usize>,
 ) -> Result<bool, NoMemory> {
-    let rows = put_backwards(alloc, &SHOP)?;
+    let rows = put_backwards(alloc, &SHOP)?.copy(alloc)?;
     let reached = reach(alloc, &rows, &delete(alloc, place))?;
     Ok(
         reached.left.is_none()
