@@ -1,0 +1,3 @@
+pub mod Nodes
+pub mod Holding
+pub mod Counts
