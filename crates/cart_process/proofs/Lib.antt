@@ -1,0 +1,5 @@
+pub mod FieldNumbers
+pub mod Bounds
+pub mod Ranges
+pub mod Carts
+pub mod Assembled

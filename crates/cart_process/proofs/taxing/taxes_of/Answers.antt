@@ -1,0 +1,15 @@
+use Rattle.std.proofs.Common.{◌≤◌, Result, Ok, Err}
+use Rattle.std.specs.Prelude.{IfOk}
+use Rattle.cart_sums.specs.Fits.{AreTaxed}
+use Rattle.cart_sums.specs.Taxes.{most}
+use Rattle.cart_process.specs.Priced.{tax_total}
+use Rattle.cart_process.proofs.Carts.{taxed-most}
+use Rattle.cart_process.proofs.taxing.taxes_of.Goals as goal
+
+weaker : {T E : Type 0} (P Q : T → Type 0) → ((x : T) → P x → Q x) → (r : Result T E) → IfOk r P → IfOk r Q
+weaker P Q f (Ok x) p = f x p
+weaker P Q f (Err e) p = tt
+
+pub returns-clause-bound : goal.returns-clause-bound
+returns-clause-bound c =
+    weaker (AreTaxed c.args.state c.args.mode c.in_ok-sums-3.sums.list) (λ taxes. tax_total taxes ≤ most) (λ taxes are. taxed-most c.args.state c.args.mode c.in_ok-sums-3.sums.list taxes c.in_ok-sums-3.ensures.sums are) c.tax_sums.result c.tax_sums.ensures.taxed

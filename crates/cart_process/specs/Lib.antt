@@ -1,0 +1,10 @@
+pub mod Words
+pub mod Causes
+pub mod Units
+pub mod Kept
+pub mod LinePrices
+pub mod Offers
+pub mod Deliveries
+pub mod Priced
+pub mod Fitting
+pub mod Summing
