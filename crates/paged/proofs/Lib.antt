@@ -1,0 +1,10 @@
+pub mod Places
+pub mod Heads
+pub mod Bounds
+pub mod Making
+pub mod Changes
+pub mod Tables
+pub mod Stepping
+pub mod Looking
+pub mod Shaping
+pub mod Walking

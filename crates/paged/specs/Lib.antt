@@ -1,0 +1,7 @@
+pub mod Pairs
+pub mod Parts
+pub mod Bound
+pub mod Changed
+pub mod Paged
+pub mod Sizes
+pub mod Walk
