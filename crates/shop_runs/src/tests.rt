@@ -7,7 +7,7 @@ use crate::tests::damage::{
 };
 use crate::tests::replies::{REPLIES, REPLIES_WITH, is_replied, is_replied_with, is_row_printed};
 use crate::tests::stores::{
-    CUT_REPORTS, FAILED_WRITES, FAULTS, OPENED, REPORT, TEN, UNASKED, WORDS, WRITE_AND_READ,
+    CUT_REPORTS, FAILED_WRITES, FAULTS, OPENED, REPORT, UNASKED, WORDS, WRITE_AND_READ,
 };
 use crate::tests::streams::STREAMS;
 use shop_defs::{Entity, Key, List, NoMemory};
@@ -25,6 +25,9 @@ mod streams;
 
 /// A row as it is kept: the parts of its key, and its bytes.
 type Held = (Entity, u128, u128, u128, &'static [u8]);
+
+/// Which read and which write fail, counted from 1, how many bytes are written, the status, and what is kept, a row for each write.
+type Fault = (u64, u64, usize, u8, &'static [Held]);
 
 /// How many bytes a read and a write have at most, and which of them fail, counted from 1.
 #[derive(Clone, Copy)]
@@ -201,13 +204,13 @@ fn is_cut(
     alloc: Global,
     run: &Run<'static>,
     write_piece: usize,
-    fault: &(u64, u64, usize, u8, bool),
+    fault: &Fault,
 ) -> Result<bool, Fail> {
     let run = Run {
         length: fault.2,
         status: fault.3,
-        kept: if fault.4 { &[TEN] } else { &[] },
-        kept_number: u64::from(fault.4),
+        kept: fault.4,
+        kept_number: fault.4.len() as u64,
         ..*run
     };
     let line = Line {

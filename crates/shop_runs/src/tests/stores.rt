@@ -1,6 +1,6 @@
 //! Runs over a keeper that holds rows or damage, or of which a call fails; and over a line of which one does.
 use super::messages::*;
-use super::{EMPTY, Held, Run};
+use super::{EMPTY, Fault, Held, Run};
 use shop_defs::Entity;
 
 /// A category with its two defaults: active, at position 0.
@@ -201,28 +201,28 @@ pub(crate) const WRITE_AND_READ: Run<'static> = Run {
 
 /// Which read and which write of those fails, how many bytes are written, the status, and whether the row is kept: it is, though
 /// its response may be cut off.
-pub(crate) static FAULTS: [(u64, u64, usize, u8, bool); 14] = [
-    (1, 0, 0, 3, false),
-    (2, 0, 0, 3, false),
-    (3, 0, 0, 3, false),
-    (4, 0, 0, 3, false),
-    (5, 0, 92, 3, true),
-    (6, 0, 294, 3, true),
-    (7, 0, 294, 0, true),
-    (0, 1, 0, 4, true),
-    (0, 2, 60, 4, true),
-    (0, 3, 92, 4, true),
-    (0, 4, 152, 4, true),
-    (0, 5, 212, 4, true),
-    (0, 6, 272, 4, true),
-    (0, 7, 294, 0, true),
+pub(crate) static FAULTS: [Fault; 14] = [
+    (1, 0, 0, 3, &[]),
+    (2, 0, 0, 3, &[]),
+    (3, 0, 0, 3, &[]),
+    (4, 0, 0, 3, &[]),
+    (5, 0, 92, 3, &[TEN]),
+    (6, 0, 294, 3, &[TEN]),
+    (7, 0, 294, 0, &[TEN]),
+    (0, 1, 0, 4, &[TEN]),
+    (0, 2, 60, 4, &[TEN]),
+    (0, 3, 92, 4, &[TEN]),
+    (0, 4, 152, 4, &[TEN]),
+    (0, 5, 212, 4, &[TEN]),
+    (0, 6, 272, 4, &[TEN]),
+    (0, 7, 294, 0, &[TEN]),
 ];
 
 /// The same of a report: in pieces of 5 bytes its 16 take 4 writes.
-pub(crate) static CUT_REPORTS: [(u64, u64, usize, u8, bool); 5] = [
-    (0, 1, 0, 4, true),
-    (0, 2, 5, 4, true),
-    (0, 3, 10, 4, true),
-    (0, 4, 15, 4, true),
-    (0, 5, 16, 0, true),
+pub(crate) static CUT_REPORTS: [Fault; 5] = [
+    (0, 1, 0, 4, &[TEN]),
+    (0, 2, 5, 4, &[TEN]),
+    (0, 3, 10, 4, &[TEN]),
+    (0, 4, 15, 4, &[TEN]),
+    (0, 5, 16, 0, &[TEN]),
 ];
