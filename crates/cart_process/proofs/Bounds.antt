@@ -18,7 +18,7 @@ use Rattle.row_fields.specs.Fields.{int_in, int_at}
 use Rattle.row_fields.specs.Checked.{IsRowOf, HoldsNumbers, Lies}
 use Rattle.row_fields.proofs.Ranges.{held_fits, number_within}
 use Rattle.cart_price.specs.Nearest.{is_interval}
-use Rattle.shop_chain.specs.Inheriting.{effective, inherited, is_inherited}
+use Rattle.shop_chain.specs.Inheriting.{inherited, is_inherited}
 use Rattle.cart_process.specs.declared.deliveries.Measures.{Measures}
 use Rattle.cart_process.specs.Kept.{IsRowIfAny}
 use Rattle.cart_process.specs.Units as units

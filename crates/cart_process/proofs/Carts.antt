@@ -1,9 +1,9 @@
 -- Lemmas on the goods of a cart, and on its lines beside their prices.
-use Rattle.std.proofs.Common.{◌≡◌, ℕ, zero, suc, ◌+◌, ◌*◌, ◌^◌, ◌≤◌, pos, Bool, true, false, cond, List, [], ◌∷◌, ◌++◌, map, length, refl, sym, ap, ◌∙◌, arith, append-nil, append_assoc}
+use Rattle.std.proofs.Common.{◌≡◌, ℕ, ◌*◌, ◌^◌, ◌≤◌, pos, Bool, true, false, cond, List, [], ◌∷◌, ◌++◌, map, length, refl, sym, ap, ◌∙◌, arith, append-nil, append_assoc}
 use Rattle.std.proofs.Math.Nat.{mul-le-mul_left}
 use Rattle.std.specs.Prelude.{sum_by, unsigned_abs}
 use Rattle.std.proofs.lemmas.Int.{ints}
-use Rattle.std.specs.List.{AllByRecursion, flat_map, fold}
+use Rattle.std.specs.List.{AllByRecursion, flat_map}
 use Rattle.std.proofs.lemmas.List.Sums.{sum_by-cons}
 use Rattle.cart_price.specs.declared.priced.TaxMode.{TaxMode}
 use Rattle.cart_price.specs.declared.priced.TaxState.{TaxState}
@@ -17,7 +17,7 @@ use Rattle.cart_sums.specs.Taxes.{most}
 use Rattle.cart_sums.proofs.Kept.{add-kept}
 use Rattle.cart_sums.proofs.Shared.{left-most}
 use Rattle.cart_process.specs.declared.line_price.LinePrice.{LinePrice}
-use Rattle.cart_process.specs.LinePrices.{PriceFits, has_price, line_price}
+use Rattle.cart_process.specs.LinePrices.{PriceFits, has_price}
 use Rattle.cart_process.specs.Priced.{blocks_by, line_blocks, line_position, line_positions, line_prices, line_total, lines_by, priced_line, tax_total}
 use Rattle.cart_process.specs.Summing.{line_sums, with_line}
 

@@ -3,3 +3,4 @@ pub mod Bounds
 pub mod Ranges
 pub mod Carts
 pub mod Assembled
+pub mod Shown

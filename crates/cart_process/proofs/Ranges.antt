@@ -1,5 +1,5 @@
 -- The numbers of a line, and of a delivery, are in their ranges.
-use Rattle.std.proofs.Common.{◌≡◌, ℕ, ◌*◌, ◌^◌, ◌≤◌, pos, Bool, true, false, true≢false, cond, List, [], ◌∷◌, map, Option, Some, None, IfSome, refl, sym, ◌∙◌, arith}
+use Rattle.std.proofs.Common.{◌≡◌, ℕ, ◌*◌, ◌≤◌, pos, Bool, true, false, true≢false, cond, List, [], ◌∷◌, Option, Some, None, IfSome, refl, sym, ◌∙◌, arith}
 use Rattle.std.proofs.Math.Nat.{mul-le-mul_left}
 use Rattle.std.specs.Prelude.{◌==◌}
 use Rattle.std.specs.List.{AllByRecursion}
@@ -12,7 +12,6 @@ use Rattle.cart_price.specs.Lent.{LineRows}
 use Rattle.cart_process.specs.declared.deliveries.Measures.{Measures}
 use Rattle.cart_process.specs.declared.line_price.Cause.{Cause}
 use Rattle.cart_process.specs.declared.line_price.Cause.TheVariants as C
-use Rattle.cart_process.specs.declared.line_price.LinePrice.{LinePrice}
 use Rattle.cart_process.specs.Deliveries.{shipped_by, shipped_of, shipping_cost}
 use Rattle.cart_process.specs.Kept.{IsLineKept, IsRowIfAny, ShippedFits}
 use Rattle.cart_process.specs.LinePrices.{PriceFits, cause_of, has_price, line_price, line_price_by, price_of, quantity_of, rate_of, weight_of, without_price}

@@ -1,5 +1,5 @@
 -- What is relied on of the rows that a cart's prices are made of: each is a row of its entity, as the entity has it.
-use Rattle.std.specs.Prelude.{◌≤◌, ◌^◌, List, length, Option, Some, None}
+use Rattle.std.specs.Prelude.{◌≤◌, ◌^◌, length, Option, Some, None}
 use Rattle.std.specs.List.{AllByRecursion}
 use Rattle.shop_defs.specs.declared.entity.Entity.{Entity}
 use Rattle.shop_defs.specs.declared.entity.Entity.TheVariants as E

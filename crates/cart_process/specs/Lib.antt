@@ -8,3 +8,4 @@ pub mod Deliveries
 pub mod Priced
 pub mod Fitting
 pub mod Summing
+pub mod Shown

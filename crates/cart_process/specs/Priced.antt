@@ -1,5 +1,5 @@
 -- One round of a cart, step by step.
-use Rattle.std.specs.Prelude.{ℕ, ◌+◌, ◌*◌, ℤ, pos, Bool, List, [], ◌∷◌, ◌++◌, map, sum_by, unsigned_abs, Option, Some, None, option_to_list, if◌then◌else◌, unwrap_or, codes}
+use Rattle.std.specs.Prelude.{ℕ, ◌+◌, ◌*◌, ℤ, pos, List, [], ◌∷◌, ◌++◌, map, sum_by, unsigned_abs, Option, Some, None, if◌then◌else◌, unwrap_or, codes}
 use Rattle.std.specs.List.{flat_map}
 use Rattle.shop_defs.specs.declared.entity.Entity.TheVariants as E
 use Rattle.shop_defs.specs.declared.row.Row.{Row}
@@ -15,7 +15,6 @@ use Rattle.cart_price.specs.declared.priced.TaxState.TheVariants as S
 use Rattle.cart_price.specs.declared.priced.TaxSum.{TaxSum}
 use Rattle.cart_price.specs.Lent.{CartRows, LineRows}
 use Rattle.cart_price.specs.Nearest.{rounded}
-use Rattle.cart_sums.specs.declared.discounts.Taken.{Taken}
 use Rattle.cart_sums.specs.Discounts.{take_all}
 use Rattle.cart_sums.specs.Positions.{Positions, goods_less, taken_at, tax_sums}
 use Rattle.cart_process.specs.declared.deliveries.Measures.{Measures}

@@ -1,5 +1,5 @@
 -- How the positions of the lines are summed up, one line after the other.
-use Rattle.std.specs.Prelude.{List, [], if◌then◌else◌}
+use Rattle.std.specs.Prelude.{List, if◌then◌else◌}
 use Rattle.std.specs.List.{fold}
 use Rattle.cart_price.specs.declared.priced.TaxState.{TaxState}
 use Rattle.cart_sums.specs.declared.sums.RateSum.{RateSum}

@@ -1,12 +1,20 @@
-//! The steps of one round of a cart: its prices, discounts, delivery, taxes and total, by the rules that
-//! hold. The call that makes a round of them isn't there yet, so nothing is public.
+//! One round of a cart: its prices, discounts, delivery, taxes and total, by the rules that hold.
+//!
+//! Public is `process` alone, which makes a round's cart of lent rows. No other crate calls it yet.
 //!
 //! # What is promised
 //!
-//! - Each step is its part of the round's definition (`priced`): the price of each line or what keeps
-//!   it from being ordered, what promotions offer, the price row of the delivery or what keeps it from
-//!   being ordered, the taxes of all positions, and the cart from its parts.
-//! - No number leaves its range, whatever the rows hold that the table allows.
+//! - `process` is the round's definition (`priced`), step by step (`value`): the price of each line or
+//!   what keeps it from being ordered; what promotions take off the goods; the delivery, or what keeps
+//!   it from being ordered; what promotions take off that; the taxes of all positions; and the total.
+//!   Want of memory is its only error.
+//! - What is shown adds up (`sum`). The goods are the lines' totals together. Each discount is above 0,
+//!   there are at most 50 on the goods and as many on the delivery, and they come to no more than what
+//!   they are taken off. The tax is that of all rates. `raw` is what is left of the goods and of the
+//!   delivery, with the tax in the net state, and the total is no more than half an interval away.
+//! - Tax rates ascend, each once, and each tax is from 0 to its amount (`taxes`).
+//! - It asks that at most 100 lines are lent, and that the rows it takes numbers from are rows of their
+//!   entities as the table has them (`IsCartKept`). Then no number leaves its range.
 #![tactic(auto)]
 
 mod blocks;
@@ -21,3 +29,5 @@ mod sending;
 mod taxing;
 mod units;
 mod words;
+
+pub use round::process;

@@ -1,5 +1,5 @@
-//! A round's cart, put together from its parts.
-ghost use Rattle.std.specs.Prelude.{◌≡◌, ◌≤◌, ◌*◌, ◌^◌, IfSome, IsTrue};
+//! One round of a cart.
+ghost use Rattle.std.specs.Prelude.{◌≡◌, ◌≤◌, ◌*◌, ◌^◌, IfOk, IfSome, IsTrue};
 ghost use Rattle.std.specs.Option.{option_copied};
 ghost use Rattle.shop_defs.specs.declared.entity.Entity.TheVariants as E;
 ghost use Rattle.row_fields.specs.Checked.{IsRowOf};
@@ -7,16 +7,55 @@ ghost use Rattle.cart_price.specs.Lent.{cart_rows};
 ghost use Rattle.cart_price.specs.Nearest.{is_interval};
 ghost use Rattle.cart_sums.specs.Taxes.{most};
 ghost use Rattle.cart_process.specs.Fitting.{GoodsFit, SendingFits};
-ghost use Rattle.cart_process.specs.Kept.{ShippedFits};
+ghost use Rattle.cart_process.specs.Kept.{IsCartKept, ShippedFits};
 ghost use Rattle.cart_process.specs.Priced as spec;
+ghost use Rattle.cart_process.specs.Shown.{AddsUp, AreTaxesShown};
+ghost use Rattle.cart_process.specs.Words as words;
 
+use crate::blocks::{blocks_of, lines_of};
 use crate::deliveries::Shipped;
-use crate::goods::Goods;
+use crate::goods::{Goods, goods_of};
 use crate::numbers::CART_INTERVAL;
-use crate::sending::Sending;
+use crate::sending::{Sending, sending_of};
+use crate::taxing::taxes_of;
+use crate::words::{mode_of, state_of};
 use cart_price::{Block, CartData, Delivery, PricedCart, PricedLine, TaxState, TaxSum, round_to};
 use row_fields::int_at;
-use shop_defs::{List, Row};
+use shop_defs::{List, NoMemory, Row};
+use std::alloc::Global;
+
+/// A round's cart over the lent rows at a moment, by the rules that hold, in their order.
+///
+/// The rows of the cart, of its lines with their products, prices and taxes, of the method's tax and of
+/// its prices are rows of their entities as the table has them, and there are at most 100 lines. A line
+/// for whose product no tax row is lent has no price. Want of memory is the only error.
+pub fn process(
+    alloc: Global,
+    lent: &CartData<'_>,
+    moment: i64,
+    rules: &[u128],
+) -> Result<PricedCart, NoMemory>
+    requires { IsCartKept (cart_rows lent.now) }
+    ensures value { IfOk result (λ cart. cart ≡ spec.priced (cart_rows lent.now) moment rules.now) }
+    // The numbers that are shown add up, and what is to be paid is no more than half an interval away.
+    ensures sum { IfOk result (AddsUp (words.state_of lent.now.cart.now) (spec.interval_of lent.now.cart.now)) }
+    // Rates ascend, and each tax is within its amount.
+    ensures taxes { IfOk result (λ cart. AreTaxesShown (words.state_of lent.now.cart.now) (words.mode_of lent.now.cart.now) cart.taxes) }
+{
+    let state = state_of(lent.cart);
+    let goods = goods_of(alloc, state, moment, rules, lent)?;
+    let sending = sending_of(alloc, state, moment, rules, lent, &goods.measures)?;
+    let taxes = taxes_of(alloc, state, mode_of(lent.cart), &goods, &sending)?;
+    let lines = lines_of(alloc, lent.lines.as_slice(), goods.prices.as_slice())?;
+    let blocks = blocks_of(
+        alloc,
+        lent.lines.as_slice(),
+        goods.prices.as_slice(),
+        lent.cart.key.id,
+        sending.cause,
+    )?;
+    Ok(cart_of(lent, state, lines, blocks, goods, sending, taxes))
+}
 
 /// The cart, from its parts.
 fn cart_of(

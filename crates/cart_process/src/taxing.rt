@@ -11,6 +11,7 @@ ghost use Rattle.cart_process.specs.Fitting.{GoodsFit, SendingFits};
 ghost use Rattle.cart_process.specs.Kept.{ShippedFits};
 ghost use Rattle.cart_process.specs.LinePrices.{PriceFits};
 ghost use Rattle.cart_process.specs.Priced as spec;
+ghost use Rattle.cart_process.specs.Shown.{AreTaxesShown};
 ghost use Rattle.cart_process.specs.Summing as summing;
 
 use crate::deliveries::Shipped;
@@ -36,6 +37,7 @@ pub(crate) fn taxes_of(
     requires sending { SendingFits sending.now }
     ensures value { IfOk result (λ taxes. taxes ≡ direct.tax_sums state mode (spec.positions_of goods.now sending.now)) }
     ensures bound { IfOk result (λ taxes. spec.tax_total taxes ≤ most) }
+    ensures shown { IfOk result (AreTaxesShown state mode) }
 {
     let sums = line_sums(alloc, state, goods.prices.as_slice())?;
     let sums = take_goods(alloc, state, sums, goods.taken.discounts.as_slice())?;

@@ -3,8 +3,6 @@ use Rattle.std.specs.Option.{option_copied}
 use Rattle.shop_defs.specs.declared.entity.Entity.TheVariants as E
 use Rattle.row_fields.specs.Checked.{IsRowOf}
 use Rattle.cart_price.specs.Lent.{lent_rows}
-use Rattle.cart_process.specs.Deliveries.{shipped_of}
-use Rattle.cart_process.specs.Kept.{ShippedFits}
 use Rattle.cart_process.proofs.Bounds.{shipping-kept}
 use Rattle.cart_process.proofs.Ranges.{shipped_of-fits}
 use Rattle.cart_process.proofs.sending.sending_of.Goals as goal

@@ -3,6 +3,7 @@ use Rattle.std.specs.Prelude.{IfOk}
 use Rattle.cart_sums.specs.Fits.{AreTaxed}
 use Rattle.cart_sums.specs.Taxes.{most}
 use Rattle.cart_process.specs.Priced.{tax_total}
+use Rattle.cart_process.specs.Shown.{AreTaxesShown}
 use Rattle.cart_process.proofs.Carts.{taxed-most}
 use Rattle.cart_process.proofs.taxing.taxes_of.Goals as goal
 
@@ -13,3 +14,7 @@ weaker P Q f (Err e) p = tt
 pub returns-clause-bound : goal.returns-clause-bound
 returns-clause-bound c =
     weaker (AreTaxed c.args.state c.args.mode c.in_ok-sums-3.sums.list) (λ taxes. tax_total taxes ≤ most) (λ taxes are. taxed-most c.args.state c.args.mode c.in_ok-sums-3.sums.list taxes c.in_ok-sums-3.ensures.sums are) c.tax_sums.result c.tax_sums.ensures.taxed
+
+pub returns-clause-shown : goal.returns-clause-shown
+returns-clause-shown c =
+    weaker (AreTaxed c.args.state c.args.mode c.in_ok-sums-3.sums.list) (AreTaxesShown c.args.state c.args.mode) (λ taxes are. record { ascend = are.ascend; each = are.each }) c.tax_sums.result c.tax_sums.ensures.taxed
