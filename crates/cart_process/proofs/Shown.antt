@@ -1,5 +1,5 @@
 -- The numbers of a round's cart add up.
-use Rattle.std.proofs.Common.{◌≡◌, ℕ, zero, suc, ℤ, pos, negsuc, ◌+ℤ◌, ◌-ℤ◌, ◌<ℤ◌, Bool, true, false, cond, ◌==◌, List, [], ◌∷◌, map, Option, Some, None, IsTrue, refl, sym, ap, ◌∙◌, arith}
+use Rattle.std.proofs.Common.{◌≡◌, ℕ, zero, suc, ◌+◌, ℤ, pos, negsuc, ◌+ℤ◌, ◌-ℤ◌, ◌<ℤ◌, Bool, true, false, cond, ◌==◌, List, [], ◌∷◌, map, Option, Some, None, IsTrue, refl, sym, ap, ◌∙◌, arith}
 use Rattle.std.proofs.lemmas.Int.{ints}
 use Rattle.std.proofs.lemmas.List.Sums.{sum_by-cons}
 use Rattle.std.specs.List.{AllByRecursion}
@@ -27,11 +27,11 @@ use Rattle.cart_process.specs.declared.sending.Sending.{Sending}
 use Rattle.cart_process.specs.Deliveries.{cause_of, cause_by, shipped_by, shipped_of, shipping_price}
 use Rattle.cart_process.specs.Fitting.{GoodsFit, SendingFits}
 use Rattle.cart_process.specs.LinePrices.{line_price}
-use Rattle.cart_process.specs.Priced.{cart_of, cost_of, delivery_in, goods_of, interval_of, line_prices, line_total, lines_by, priced_line, raw_of, sending_of, tax_total}
+use Rattle.cart_process.specs.Priced.{amount_total, cart_of, cost_of, delivery_in, goods_of, interval_of, line_prices, line_total, lines_by, priced_line, raw_of, sending_of, tax_total}
 use Rattle.cart_process.proofs.Bounds.{interval-within}
 use Rattle.cart_process.proofs.Carts.{lines_by-priced}
 use Rattle.cart_process.proofs.FieldNumbers.{cart_interval}
-use Rattle.cart_process.specs.Shown.{AddsUp, AreTaken, added, cost_shown, taken, taxed, totals}
+use Rattle.cart_process.specs.Shown.{AddsUp, AreTaken, added, amounts, cost_shown, taken, taxed, totals}
 
 pub totals-priced : (state : TaxState) (rules : List ℕ) (lines : List LineRows) → totals (map (priced_line state rules) lines) ≡ pos (sum_by line_total (line_prices state rules lines))
 totals-priced state rules [] = refl
@@ -51,6 +51,18 @@ taxed-total state mode [] all = refl
 taxed-total state mode (sum ∷ taxes) all =
     let more = taxed-total state mode taxes all.1 in
     rw (sum_by-cons (λ (x : TaxSum). unsigned_abs x.tax) sum taxes) (omega (arith, ints, all.0.low, more))
+
+amounts-total : (state : TaxState) (mode : TaxMode) (taxes : List TaxSum) → AllByRecursion (IsTaxed state mode) taxes → amounts taxes ≡ pos (amount_total taxes)
+amounts-total state mode [] all = refl
+amounts-total state mode (sum ∷ taxes) all =
+    let more = amounts-total state mode taxes all.1 in
+    rw (sum_by-cons (λ (x : TaxSum). unsigned_abs x.amount) sum taxes) (omega (arith, ints, all.0.low, all.0.high, more))
+
+-- what is to be paid, from what the cart comes to at its rates
+raw-at-rates : (state : TaxState) (goods cost tax : ℕ) (amount : ℤ) → amount ≡ pos (goods + cost) → pos (raw_of state goods cost tax) ≡ amount +ℤ added state (pos tax)
+raw-at-rates S.Net goods cost tax amount is = omega (arith, ints, is)
+raw-at-rates S.Gross goods cost tax amount is = omega (arith, ints, is)
+raw-at-rates S.Free goods cost tax amount is = omega (arith, ints, is)
 
 pub are-taken : (whole : ℕ) (off : Taken) → IsTakenOff whole off → AreTaken (pos whole) off.discounts
 are-taken whole off is =
@@ -88,9 +100,9 @@ near amount (negsuc n) is = grind arith
 
 pub adds-up : (rows : CartRows) (moment : ℤ) (rules : List ℕ) (state : TaxState) (mode : TaxMode) (goods : Goods) (sending : Sending) (taxes : List TaxSum) (lines : List PricedLine) (blocks : List Block)
     → goods ≡ goods_of state moment rules rows → sending ≡ sending_of state moment rules rows goods.measures → lines ≡ lines_by rows.lines goods.prices
-    → GoodsFit goods → SendingFits sending → AllByRecursion (IsTaxed state mode) taxes → IsTrue (is_interval (interval_of rows.cart))
+    → GoodsFit goods → SendingFits sending → AllByRecursion (IsTaxed state mode) taxes → IsTrue (is_interval (interval_of rows.cart)) → amount_total taxes ≡ goods.taken.left + sending.taken.left
     → AddsUp state (interval_of rows.cart) (cart_of rows state lines blocks goods sending taxes)
-adds-up rows moment rules state mode goods sending taxes lines blocks is_goods is_sending is_lines fit sent each interval =
+adds-up rows moment rules state mode goods sending taxes lines blocks is_goods is_sending is_lines fit sent each interval amounts_all =
     let prices : goods.prices ≡ line_prices state rules rows.lines = ap (λ (x : Goods). x.prices) is_goods in
     let all : totals lines ≡ pos (sum_by line_total goods.prices) = rw (is_lines, prices, lines_by-priced state rules rows.lines) (totals-priced state rules rows.lines) in
     let cost : cost_shown (delivery_in rows.method sending.shipped) ≡ pos (cost_of sending.shipped) =
@@ -101,6 +113,7 @@ adds-up rows moment rules state mode goods sending taxes lines blocks is_goods i
       delivery_discounts = rw cost (are-taken (cost_of sending.shipped) sending.taken sent.taken);
       tax = taxed-total state mode taxes each;
       raw = rw cost (raw-shown state goods.measures.goods (cost_of sending.shipped) (tax_total taxes) goods.taken sending.taken fit.taken sent.taken);
+      rates = raw-at-rates state goods.taken.left sending.taken.left (tax_total taxes) (amounts taxes) (amounts-total state mode taxes each ∙ ap pos amounts_all);
       total = near (pos (raw_of state goods.taken.left sending.taken.left (tax_total taxes))) (interval_of rows.cart) interval;
     }
 

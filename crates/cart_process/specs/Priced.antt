@@ -127,6 +127,9 @@ delivery_in method shipped = None
 abbrev pub tax_total : List TaxSum → ℕ
 tax_total taxes = sum_by (λ sum. unsigned_abs sum.tax) taxes
 
+abbrev pub amount_total : List TaxSum → ℕ
+amount_total taxes = sum_by (λ sum. unsigned_abs sum.amount) taxes
+
 -- what is to be paid before it is rounded: what is left of the goods and of the delivery, and in the net state the taxes
 abbrev pub raw_of : TaxState → ℕ → ℕ → ℕ → ℕ
 raw_of S.Net goods delivery taxes = goods + delivery + taxes

@@ -29,6 +29,9 @@ taken discounts = together (map (λ discount. discount.amount) discounts)
 abbrev pub taxed : List TaxSum → ℤ
 taxed taxes = together (map (λ sum. sum.tax) taxes)
 
+abbrev pub amounts : List TaxSum → ℤ
+amounts taxes = together (map (λ sum. sum.amount) taxes)
+
 -- tax is added to prices in the net state alone
 abbrev pub added : TaxState → ℤ → ℤ
 added S.Net tax = tax
@@ -47,6 +50,7 @@ pub record AddsUp (state : TaxState) (interval : ℤ) (cart : PricedCart) : Type
   pub delivery_discounts : AreTaken (cost_shown cart.delivery) cart.delivery_discounts
   pub tax : cart.tax ≡ taxed cart.taxes
   pub raw : cart.raw ≡ ((cart.goods -ℤ taken cart.discounts) +ℤ (cost_shown cart.delivery -ℤ taken cart.delivery_discounts)) +ℤ added state cart.tax
+  pub rates : cart.raw ≡ amounts cart.taxes +ℤ added state cart.tax
   pub total : IsWithinHalf (unsigned_abs interval) cart.raw cart.total
 
 -- rates ascend, and each tax is from 0 to its amount, and in a vertical cart that of its amount

@@ -11,7 +11,8 @@
 //! - What is shown adds up (`sum`). The goods are the lines' totals together. Each discount is above 0,
 //!   there are at most 50 on the goods and as many on the delivery, and they come to no more than what
 //!   they are taken off. The tax is that of all rates. `raw` is what is left of the goods and of the
-//!   delivery, with the tax in the net state, and the total is no more than half an interval away.
+//!   delivery, with the tax in the net state; it is also the amounts at all rates, with that tax. The
+//!   total is no more than half an interval away from it.
 //! - Tax rates ascend, each once, and each tax is from 0 to its amount (`taxes`).
 //! - It asks that at most 100 lines are lent, and that the rows it takes numbers from are rows of their
 //!   entities as the table has them (`IsCartKept`). Then no number leaves its range.

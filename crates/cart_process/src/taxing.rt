@@ -38,6 +38,7 @@ pub(crate) fn taxes_of(
     ensures value { IfOk result (λ taxes. taxes ≡ direct.tax_sums state mode (spec.positions_of goods.now sending.now)) }
     ensures bound { IfOk result (λ taxes. spec.tax_total taxes ≤ most) }
     ensures shown { IfOk result (AreTaxesShown state mode) }
+    ensures amounts { IfOk result (λ taxes. spec.amount_total taxes ≡ goods.now.taken.left + sending.now.taken.left) }
 {
     let sums = line_sums(alloc, state, goods.prices.as_slice())?;
     let sums = take_goods(alloc, state, sums, goods.taken.discounts.as_slice())?;
@@ -104,6 +105,7 @@ fn with_delivery(
     requires room { sum_by plus_of sums.list ≤ 10 ^ 18 }
     requires within { total_off discounts.now ≤ spec.cost_of shipped }
     ensures sums { IfOk result (λ after. AreSums after.list) }
+    ensures left { IfOk result (λ after. sum_by left_at after.list + total_off discounts.now ≡ sum_by left_at sums.list + spec.cost_of shipped) }
     ensures positions { IfOk result (λ after. (given : Positions) → sums.list ≡ sums_of state given → after.list ≡ sums_of state (given ++ spec.sent_positions shipped discounts.now)) }
 {
     match shipped {

@@ -25,7 +25,7 @@ returns-clause-sum c =
     let sending : c.in_ok-sending.sending ≡ spec.sending_of c.state_of-state.result c.args.moment c.args.rules.now rows c.in_ok-goods.goods.measures = simp (to_z-of_z, c.ranges.moment) at c.in_ok-sending.ensures.value in
     let lines = rw (c.as_slice.ensures, c.as_slice-2.ensures) at c.in_ok-lines.ensures in
     let up = adds-up rows c.args.moment c.args.rules.now c.state_of-state.result c.mode_of.result c.in_ok-goods.goods c.in_ok-sending.sending c.in_ok-taxes.taxes c.in_ok-lines.lines.items _
-    goods sending lines c.in_ok-goods.ensures.fit c.in_ok-sending.ensures.fits c.in_ok-taxes.ensures.shown.each (interval-kept rows.cart c.requires.cart) in
+    goods sending lines c.in_ok-goods.ensures.fit c.in_ok-sending.ensures.fits c.in_ok-taxes.ensures.shown.each (interval-kept rows.cart c.requires.cart) c.in_ok-taxes.ensures.amounts in
     subst (λ state. AddsUp state (spec.interval_of rows.cart) c.cart_of.result) c.state_of-state.ensures
     (subst (λ cart. AddsUp c.state_of-state.result (spec.interval_of rows.cart) cart) (sym c.cart_of.ensures) up)
 
