@@ -29,10 +29,22 @@ of_all_fields rule = list_all (λ info. list_all (rule info.entity) (fields_of i
 abbrev pub is_entity : Entity → Entity → Bool
 is_entity a b = entity_number a == entity_number b
 
+abbrev pub is_of : Option Entity → Entity → Bool
+is_of (Some of) entity = is_entity of entity
+is_of None entity = false
+
+-- the elements have the numbers from a first one on
+abbrev pub counts_up : {X : Type 0} → (X → ℕ) → ℕ → List X → Bool
+counts_up number first [] = true
+counts_up number first (x ∷ rest) = (number x == first) && counts_up number (first + 1) rest
+
+-- the entities are numbered 1, 2 and so on
+pub entities_numbered : counts_up (λ (info : EntityInfo). entity_number info.entity) 1 ENTITIES ≡ true
+entities_numbered = refl
+
 -- the fields have the numbers from a first one on
 abbrev pub counts_from : ℕ → List FieldInfo → Bool
-counts_from first [] = true
-counts_from first (field ∷ rest) = (field.number == first) && counts_from (first + 1) rest
+counts_from first fields = counts_up (λ (field : FieldInfo). field.number) first fields
 
 -- the fields of each entity are numbered 1, 2 and so on
 pub fields_numbered : list_all (λ info. counts_from 1 (fields_of info.entity)) ENTITIES ≡ true
@@ -48,34 +60,10 @@ pub field_names_differ : of_all_fields (λ entity field. is_number field.number 
 unfolding fields_of
 field_names_differ = refl
 
--- an entity is found by its name, so no two have the same
-pub entity_named-text : (entity : Entity) → entity_named (entity_text entity) ≡ Some entity
+-- each entity is found by its name, so no two have the same
+pub entity_names_differ : list_all (λ info. is_of (entity_named (entity_text info.entity)) info.entity) ENTITIES ≡ true
 unfolding info_named
-entity_named-text E.Language = refl
-entity_named-text E.Tax = refl
-entity_named-text E.Category = refl
-entity_named-text E.CategoryTranslation = refl
-entity_named-text E.Product = refl
-entity_named-text E.ProductTranslation = refl
-entity_named-text E.ProductCategory = refl
-entity_named-text E.ProductPrice = refl
-entity_named-text E.Stream = refl
-entity_named-text E.StreamFilter = refl
-entity_named-text E.Rule = refl
-entity_named-text E.RuleCondition = refl
-entity_named-text E.Promotion = refl
-entity_named-text E.PromotionDiscount = refl
-entity_named-text E.ShippingMethod = refl
-entity_named-text E.ShippingPrice = refl
-entity_named-text E.Stock = refl
-entity_named-text E.Cart = refl
-entity_named-text E.CartLine = refl
-entity_named-text E.CartCode = refl
-entity_named-text E.Order = refl
-entity_named-text E.OrderLine = refl
-entity_named-text E.OrderTax = refl
-entity_named-text E.Draft = refl
-entity_named-text E.DraftCommit = refl
+entity_names_differ = refl
 
 -- what a field holds where it would be null fits its kind
 pub presets_fit : of_all_fields (λ entity field. null_or_fits field.kind (preset_of field)) ≡ true
@@ -115,10 +103,6 @@ is_part a b = false
 -- how many references stand in a part of an entity's rows
 abbrev pub references_in : Entity → Part → ℕ
 references_in entity part = count_by (λ reference. is_entity reference.entity entity && is_part reference.part part) REFERENCES
-
-abbrev pub is_of : Option Entity → Entity → Bool
-is_of (Some of) entity = is_entity of entity
-is_of None entity = false
 
 -- a reference in a field is to the entity whose ids the field holds
 abbrev pub agrees : Reference → Part → Bool
