@@ -21,6 +21,7 @@ use Rattle.shop_defs.specs.Keys.{key_cmp}
 use Rattle.shop_defs.specs.Rows.{row_key, field_of, IsInKeyOrder}
 use Rattle.shop_defs.specs.Tables.{fields_of}
 use Rattle.shop_defs.proofs.Keys.{key_cmp_total}
+use Rattle.shop_defs.proofs.EachLine.{same_entity}
 use Rattle.shop_operations.specs.Deletes.{stands_at}
 use Rattle.shop_operations.specs.Parents.{is_deep}
 use Rattle.shop_operations.specs.References.{is_entity, is_id, is_live, is_grounded, are_grounded, live, part_of}
@@ -32,7 +33,6 @@ use Rattle.shop_rows.proofs.Lists.{count_by-filter}
 use Rattle.shop_rows.proofs.Same.{itself_equal, key_is}
 use Rattle.shop_soundness.proofs.Lists.{of_each, count_under, count_filter, filter_all}
 use Rattle.shop_soundness.proofs.Places.{place_back, place_stands, stands_place}
-use Rattle.shop_soundness.proofs.Tables.{same_entity}
 use Rattle.shop_soundness.proofs.Values.{value_same}
 use Rattle.shop_check.specs.declared.fault.Rule.TheVariants as R
 use Rattle.shop_check.specs.Standing.{breaks_reference, breaks_duplicate, breaks_parent, breaks_limit, rule_failed_among, up_to}

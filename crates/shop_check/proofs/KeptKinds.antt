@@ -19,6 +19,7 @@ use Rattle.shop_defs.specs.Entities.{entity_number}
 use Rattle.shop_defs.specs.Fitting.{field_fits, given_fits, line_fits, line_given_fits, op_fits, parts_fit, row_key_fits}
 use Rattle.shop_defs.specs.Tables.{fields_of, number_in}
 use Rattle.shop_defs.specs.Texts.{choice_texts}
+use Rattle.shop_defs.proofs.EachLine.{of_fields}
 use Rattle.shop_kept.specs.Spelling.{rises, FitsValue, FitsGiven, FitsField, FitFields, FitsOp}
 use Rattle.shop_check.specs.Kinds.{is_change, has_versions, has_changes, ops_fit, KindsAreKept}
 
@@ -36,31 +37,7 @@ is_narrow field = nat_le field.number 255 && holds_short field.kind
 
 all_narrow : (entity : Entity) → list_all is_narrow (fields_of entity) ≡ true
 unfolding fields_of
-all_narrow E.Language = refl
-all_narrow E.Tax = refl
-all_narrow E.Category = refl
-all_narrow E.CategoryTranslation = refl
-all_narrow E.Product = refl
-all_narrow E.ProductTranslation = refl
-all_narrow E.ProductCategory = refl
-all_narrow E.ProductPrice = refl
-all_narrow E.Stream = refl
-all_narrow E.StreamFilter = refl
-all_narrow E.Rule = refl
-all_narrow E.RuleCondition = refl
-all_narrow E.Promotion = refl
-all_narrow E.PromotionDiscount = refl
-all_narrow E.ShippingMethod = refl
-all_narrow E.ShippingPrice = refl
-all_narrow E.Stock = refl
-all_narrow E.Cart = refl
-all_narrow E.CartLine = refl
-all_narrow E.CartCode = refl
-all_narrow E.Order = refl
-all_narrow E.OrderLine = refl
-all_narrow E.OrderTax = refl
-all_narrow E.Draft = refl
-all_narrow E.DraftCommit = refl
+all_narrow = of_fields (λ entity field. is_narrow field) refl
 
 both : (a b : Bool) → (a && b) ≡ true → (a ≡ true) × (b ≡ true)
 both true true e = (refl, refl)

@@ -8,7 +8,6 @@ use Rattle.std.proofs.lemmas.Bool.{and_from, and_parts, eqb-true, eq-eqb}
 use Rattle.closure.specs.Closure.{IsIn}
 use Rattle.closure.proofs.Members.{all_at, all_from, of_filter}
 use Rattle.shop_defs.specs.declared.entity.Entity.{Entity}
-use Rattle.shop_defs.specs.declared.entity.Entity.TheVariants as E
 use Rattle.shop_defs.specs.declared.key.Key.{Key}
 use Rattle.shop_defs.specs.declared.row.Row.{Row}
 use Rattle.shop_defs.specs.declared.table.EntityInfo.{EntityInfo}
@@ -22,6 +21,7 @@ use Rattle.shop_defs.specs.Keys.{key_cmp}
 use Rattle.shop_defs.specs.Rows.{row_at, IsInKeyOrder}
 use Rattle.shop_defs.specs.Tables.{info_of}
 use Rattle.shop_defs.proofs.Keys.{key_cmp_total}
+use Rattle.shop_defs.proofs.EachLine.{each_entity}
 use Rattle.shop_operations.specs.Parents.{is_parental, parent_id}
 use Rattle.shop_operations.specs.References.{is_entity, is_live, is_met, is_one, live, named}
 use Rattle.shop_operations.specs.Upserts.{agree_within, is_of_tree}
@@ -41,8 +41,7 @@ references_name_one_part = refl
 
 parents_have_one_part : (entity : Entity) → (is_none (find (is_parental entity) REFERENCES) || has_one_part entity) ≡ true
 unfolding has_one_part info_of
-parents_have_one_part E.Language = refl
-parents_have_one_part other = refl
+parents_have_one_part = each_entity (λ entity. is_none (find (is_parental entity) REFERENCES) || has_one_part entity) refl
 
 or_then : (a b : Bool) → (a || b) ≡ true → a ≡ false → b ≡ true
 or_then true b h e = cc

@@ -12,11 +12,11 @@ use Rattle.shop_defs.specs.declared.table.Part.{Part}
 use Rattle.shop_defs.specs.declared.table.Part.TheVariants as P
 use Rattle.shop_defs.specs.declared.table.Reference.{Reference}
 use Rattle.shop_defs.specs.declared.table.TheConstants.{REFERENCES, OWNER_LIMITS}
+use Rattle.shop_defs.proofs.EachLine.{same_entity}
 use Rattle.shop_operations.specs.References.{is_entity, is_live, is_grounded, is_met, is_one, live, named, part_of}
 use Rattle.shop_operations.specs.Upserts.{is_of_tree, owner_is_full}
 use Rattle.shop_rows.specs.Owners.{count_owned}
 use Rattle.shop_rows.specs.Searches.{same_part}
-use Rattle.shop_soundness.proofs.Tables.{same_entity}
 use Rattle.shop_check.specs.Found.{is_owner_of, is_within, owners_are_within}
 use Rattle.shop_check.specs.Standing.{breaks_reference, up_to}
 use Rattle.shop_check.proofs.Counted.{owner_not_full, no_owner_full}

@@ -14,7 +14,6 @@ use Rattle.closure.specs.Closure.{IsIn}
 use Rattle.closure.proofs.Members.{all_at}
 use Rattle.shop_defs.specs.declared.broken.Broken.{Broken}
 use Rattle.shop_defs.specs.declared.entity.Entity.{Entity}
-use Rattle.shop_defs.specs.declared.entity.Entity.TheVariants as E
 use Rattle.shop_defs.specs.declared.op.Op.{Op}
 use Rattle.shop_requests.specs.declared.raw.RawOp.{RawOp}
 use Rattle.shop_defs.specs.declared.row.Row.{Row}
@@ -35,6 +34,7 @@ use Rattle.shop_requests.specs.Operations.{Given, given, read_in, read, refusal,
 use Rattle.shop_defs.specs.Presets.{preset_of}
 use Rattle.shop_defs.specs.Tables.{fields_of, number_in, info_named}
 use Rattle.shop_defs.specs.Texts.{field_text}
+use Rattle.shop_defs.proofs.EachLine.{of_fields}
 use Rattle.shop_requests.proofs.IdTexts.{id_fits}
 use Rattle.shop_kept.specs.Spelling.{FitsValue, FitsField, IsValue, IsField, IsKeptRow, AreOps}
 use Rattle.shop_soundness.specs.Batches.{live_batch}
@@ -70,31 +70,7 @@ is_ranged field = nat_le field.number 255 && (holds_numbers field.kind && is_pla
 
 all_ranged : (entity : Entity) → list_all is_ranged (fields_of entity) ≡ true
 unfolding fields_of
-all_ranged E.Language = refl
-all_ranged E.Tax = refl
-all_ranged E.Category = refl
-all_ranged E.CategoryTranslation = refl
-all_ranged E.Product = refl
-all_ranged E.ProductTranslation = refl
-all_ranged E.ProductCategory = refl
-all_ranged E.ProductPrice = refl
-all_ranged E.Stream = refl
-all_ranged E.StreamFilter = refl
-all_ranged E.Rule = refl
-all_ranged E.RuleCondition = refl
-all_ranged E.Promotion = refl
-all_ranged E.PromotionDiscount = refl
-all_ranged E.ShippingMethod = refl
-all_ranged E.ShippingPrice = refl
-all_ranged E.Stock = refl
-all_ranged E.Cart = refl
-all_ranged E.CartLine = refl
-all_ranged E.CartCode = refl
-all_ranged E.Order = refl
-all_ranged E.OrderLine = refl
-all_ranged E.OrderTax = refl
-all_ranged E.Draft = refl
-all_ranged E.DraftCommit = refl
+all_ranged = of_fields (λ entity field. is_ranged field) refl
 
 -- what holds of each line holds of the one that is found, which has the number
 found_line : (rule : FieldInfo → Bool) (table : List FieldInfo) (number : ℕ) (field : FieldInfo) → list_all rule table ≡ true → number_in table number ≡ Some field → (rule field ≡ true) × (field.number ≡ number)

@@ -1,6 +1,6 @@
 -- Sound rows that operations may write are well formed; and live ones that are well formed and kept are sound.
 use Rattle.std.proofs.Common.{◌≡◌, ℕ, ◌<◌, ◌^◌, Bool, true, false, cond, List, [], ◌∷◌, length, refl, sym, subst, arith}
-use Rattle.std.specs.Prelude.{◌&&◌, nat_eq, nat_lt}
+use Rattle.std.specs.Prelude.{◌&&◌, not, nat_eq, nat_lt}
 use Rattle.std.specs.List.{list_all, AllByRecursion}
 use Rattle.std.specs.Ordering.{nat_cmp}
 use Rattle.std.specs.declared.cmp.Ordering.TheVariants.{Less}
@@ -14,6 +14,7 @@ use Rattle.shop_defs.specs.declared.value.Value.{Value}
 use Rattle.shop_defs.specs.Entities.{entity_number}
 use Rattle.shop_defs.specs.Fitting.{field_fits, is_writable, row_key_fits}
 use Rattle.shop_defs.specs.Tables.{info_of}
+use Rattle.shop_defs.proofs.EachLine.{each_entity}
 use Rattle.shop_kept.specs.Spelling.{rises, FitsRow, IsKeptRow}
 use Rattle.shop_kept.proofs.Fitting.{rises_ascending}
 use Rattle.shop_operations.specs.References.{is_live}
@@ -66,8 +67,12 @@ ascending_rising above (field ∷ fields) rising =
 -- commits of drafts aren't written by operations
 no_commit : (entity : Entity) → is_writable entity ≡ true → nat_eq (entity_number entity) (entity_number E.DraftCommit) ≡ false
 unfolding info_of
-no_commit E.DraftCommit writable = absurd cc
-no_commit entity writable = refl
+no_commit entity writable = by (is_writable entity) (nat_eq (entity_number entity) (entity_number E.DraftCommit)) writable (each_entity (λ of. not (is_writable of && nat_eq (entity_number of) (entity_number E.DraftCommit))) refl entity)
+  where
+    by : (writable commit : Bool) → writable ≡ true → not (writable && commit) ≡ true → commit ≡ false
+    by true true e f = absurd cc
+    by true false e f = refl
+    by false commit e f = absurd cc
 
 no_ops : (ops : List Op) → nat_eq (length ops) 0 ≡ true → ops ≡ []
 no_ops [] none = refl

@@ -48,30 +48,7 @@ of_found P test (first ∷ rest) x all found = by (test first) (of_found P test 
 pub line_entity : (entity : Entity) → option_map (λ info. info.entity) (info_of entity) ≡ Some entity
 unfolding info_of
 line_entity E.Language = refl
-line_entity E.Tax = refl
-line_entity E.Category = refl
-line_entity E.CategoryTranslation = refl
-line_entity E.Product = refl
-line_entity E.ProductTranslation = refl
-line_entity E.ProductCategory = refl
-line_entity E.ProductPrice = refl
-line_entity E.Stream = refl
-line_entity E.StreamFilter = refl
-line_entity E.Rule = refl
-line_entity E.RuleCondition = refl
-line_entity E.Promotion = refl
-line_entity E.PromotionDiscount = refl
-line_entity E.ShippingMethod = refl
-line_entity E.ShippingPrice = refl
-line_entity E.Stock = refl
-line_entity E.Cart = refl
-line_entity E.CartLine = refl
-line_entity E.CartCode = refl
-line_entity E.Order = refl
-line_entity E.OrderLine = refl
-line_entity E.OrderTax = refl
-line_entity E.Draft = refl
-line_entity E.DraftCommit = refl
+line_entity other = refl
 
 -- a rule that all lines keep, an entity's line keeps
 pub of_each : (rule : EntityInfo → Bool) → list_all rule ENTITIES ≡ true → (entity : Entity) (info : EntityInfo) → info_of entity ≡ Some info → rule info ≡ true

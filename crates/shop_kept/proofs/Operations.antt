@@ -1,11 +1,11 @@
 -- The law of the reader, for fields and operations.
 use Rattle.std.proofs.Common.{◌≡◌, ℕ, zero, suc, ◌^◌, ◌<◌, Bool, true, false, cond, eqb, List, [], ◌∷◌, ◌++◌, length, Option, Some, refl, sym, ap, ◌∙◌, arith}
+use Rattle.std.specs.Prelude.{nat_lt}
 use Rattle.std.specs.List.{AllByRecursion}
 use Rattle.std.specs.Option.{option_map}
 use Rattle.std.specs.Int.{w32, w128, to_be_bytes}
-use Rattle.std.proofs.lemmas.Bool.{eqb-true}
+use Rattle.std.proofs.lemmas.Bool.{eqb-true, ltb-true}
 use Rattle.shop_defs.specs.declared.entity.Entity.{Entity}
-use Rattle.shop_defs.specs.declared.entity.Entity.TheVariants as E
 use Rattle.shop_defs.specs.declared.table.EntityInfo.{EntityInfo}
 use Rattle.shop_defs.specs.declared.table.TheConstants.{ENTITIES}
 use Rattle.shop_defs.specs.Entities.{entity_number}
@@ -13,6 +13,7 @@ use Rattle.shop_defs.specs.declared.op.Op.{Op}
 use Rattle.shop_defs.specs.declared.op.OpKind.{OpKind}
 use Rattle.shop_defs.specs.declared.op.OpKind.TheVariants.{Upsert, Delete}
 use Rattle.shop_defs.specs.declared.value.Value.{Value}
+use Rattle.shop_defs.proofs.EachLine.{each_entity, entity_found}
 use Rattle.shop_kept.specs.Readers.{Reader, byte_at, number_at, counted_at}
 use Rattle.shop_kept.specs.Spelling.{kept_value, kept_given, kept_field, kept_fields, kind_number, kept_op, kept_ops, rises, IsValue, IsGiven, IsField, AreFields, IsOp, AreOps}
 use Rattle.shop_kept.specs.Reading.{value_at, given_at, field_at, fields_at, kind_numbered, kind_at, info_in, entity_numbered, entity_at, OpParts, op_of, op_at, ops_at, body_at}
@@ -58,58 +59,10 @@ entity_chosen n k e = chosen_in ENTITIES n k e
 
 entity_given : (k : Entity) → entity_numbered (entity_number k) ≡ Some k
 unfolding entity_numbered
-entity_given E.Language = refl
-entity_given E.Tax = refl
-entity_given E.Category = refl
-entity_given E.CategoryTranslation = refl
-entity_given E.Product = refl
-entity_given E.ProductTranslation = refl
-entity_given E.ProductCategory = refl
-entity_given E.ProductPrice = refl
-entity_given E.Stream = refl
-entity_given E.StreamFilter = refl
-entity_given E.Rule = refl
-entity_given E.RuleCondition = refl
-entity_given E.Promotion = refl
-entity_given E.PromotionDiscount = refl
-entity_given E.ShippingMethod = refl
-entity_given E.ShippingPrice = refl
-entity_given E.Stock = refl
-entity_given E.Cart = refl
-entity_given E.CartLine = refl
-entity_given E.CartCode = refl
-entity_given E.Order = refl
-entity_given E.OrderLine = refl
-entity_given E.OrderTax = refl
-entity_given E.Draft = refl
-entity_given E.DraftCommit = refl
+entity_given = entity_found
 
 entity_small : (k : Entity) → entity_number k < 256
-entity_small E.Language = omega arith
-entity_small E.Tax = omega arith
-entity_small E.Category = omega arith
-entity_small E.CategoryTranslation = omega arith
-entity_small E.Product = omega arith
-entity_small E.ProductTranslation = omega arith
-entity_small E.ProductCategory = omega arith
-entity_small E.ProductPrice = omega arith
-entity_small E.Stream = omega arith
-entity_small E.StreamFilter = omega arith
-entity_small E.Rule = omega arith
-entity_small E.RuleCondition = omega arith
-entity_small E.Promotion = omega arith
-entity_small E.PromotionDiscount = omega arith
-entity_small E.ShippingMethod = omega arith
-entity_small E.ShippingPrice = omega arith
-entity_small E.Stock = omega arith
-entity_small E.Cart = omega arith
-entity_small E.CartLine = omega arith
-entity_small E.CartCode = omega arith
-entity_small E.Order = omega arith
-entity_small E.OrderLine = omega arith
-entity_small E.OrderTax = omega arith
-entity_small E.Draft = omega arith
-entity_small E.DraftCommit = omega arith
+entity_small k = ltb-true _ _ (each_entity (λ entity. nat_lt (entity_number entity) 256) refl k)
 
 read_kind : IsRead (λ k. kind_number k ∷ []) (λ k. Unit {0}) kind_at
 read_kind = read_choice (λ (b : ℕ). b ∷ []) (λ b. b < 256) byte_at read_byte kind_numbered kind_number kind_chosen kind_given kind_small

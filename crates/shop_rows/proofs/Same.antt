@@ -1,60 +1,21 @@
 -- Keys, topics and mentions that compare as equal are the same.
-use Rattle.std.proofs.Common.{◌≡◌, ℕ, ◌<◌, ◌-◌, true, eqb, ◌&&◌, [], ◌∷◌, get_or, refl, sym, ap, subst, ◌∙◌, arith}
+use Rattle.std.proofs.Common.{◌≡◌, ℕ, ◌<◌, true, eqb, ◌&&◌, refl, ap, subst, arith}
 use Rattle.std.specs.declared.cmp.Ordering.{Ordering}
 use Rattle.std.specs.declared.cmp.Ordering.TheVariants.{Less, Equal, Greater}
 use Rattle.std.specs.Cmp.{IsTotalOrder}
 use Rattle.std.specs.Ordering.{is_eq, nat_cmp, ordering_then, ordering_reverse, MatchOrdering}
 use Rattle.std.proofs.lemmas.Cmp.{ranked, on_total, then_total}
 use Rattle.std.proofs.lemmas.Bool.Decides.{nat_tests}
-use Rattle.shop_defs.specs.declared.entity.Entity.{Entity}
-use Rattle.shop_defs.specs.declared.entity.Entity.TheVariants as E
 use Rattle.shop_defs.specs.declared.key.Key.{Key}
 use Rattle.shop_defs.specs.Entities.{entity_number}
 use Rattle.shop_defs.specs.Keys.{key_cmp}
+use Rattle.shop_defs.proofs.EachLine.{same_entity}
 use Rattle.shop_defs.proofs.Keys.{key_cmp_total}
 use Rattle.shop_rows.specs.declared.topic.Topic.{Topic}
 use Rattle.shop_rows.specs.declared.topic.Topic.TheVariants as T
 use Rattle.shop_rows.specs.declared.topic.Mention.{Mention}
 use Rattle.shop_rows.specs.Topics.{topic_cmp, mention_cmp}
 use Rattle.shop_rows.specs.TopicOrder.{topic_cmp_total}
-
--- ---- entities
-
--- the entity with a number
-entity_at : ℕ → Entity
-entity_at n = get_or (E.Language ∷ E.Tax ∷ E.Category ∷ E.CategoryTranslation ∷ E.Product ∷ E.ProductTranslation ∷ E.ProductCategory ∷ E.ProductPrice ∷ E.Stream ∷ E.StreamFilter ∷ E.Rule ∷ E.RuleCondition ∷ E.Promotion ∷ E.PromotionDiscount ∷ E.ShippingMethod ∷ E.ShippingPrice ∷ E.Stock ∷ E.Cart ∷ E.CartLine ∷ E.CartCode ∷ E.Order ∷ E.OrderLine ∷ E.OrderTax ∷ E.Draft ∷ E.DraftCommit ∷ []) (n - 1) E.Language
-
-entity_again : (entity : Entity) → entity_at (entity_number entity) ≡ entity
-unfolding entity_at
-entity_again E.Language = refl
-entity_again E.Tax = refl
-entity_again E.Category = refl
-entity_again E.CategoryTranslation = refl
-entity_again E.Product = refl
-entity_again E.ProductTranslation = refl
-entity_again E.ProductCategory = refl
-entity_again E.ProductPrice = refl
-entity_again E.Stream = refl
-entity_again E.StreamFilter = refl
-entity_again E.Rule = refl
-entity_again E.RuleCondition = refl
-entity_again E.Promotion = refl
-entity_again E.PromotionDiscount = refl
-entity_again E.ShippingMethod = refl
-entity_again E.ShippingPrice = refl
-entity_again E.Stock = refl
-entity_again E.Cart = refl
-entity_again E.CartLine = refl
-entity_again E.CartCode = refl
-entity_again E.Order = refl
-entity_again E.OrderLine = refl
-entity_again E.OrderTax = refl
-entity_again E.Draft = refl
-entity_again E.DraftCommit = refl
-
--- entities with one number are one
-pub entity_is : (a b : Entity) → entity_number a ≡ entity_number b → a ≡ b
-entity_is a b same = sym (entity_again a) ∙ (ap entity_at same ∙ entity_again b)
 
 -- ---- orders
 
@@ -98,7 +59,7 @@ key_is a b e =
     let one = both_equal (nat_cmp (entity_number a.entity) (entity_number b.entity)) (ordering_then (nat_cmp a.version b.version) (ordering_then (nat_cmp a.id b.id) (nat_cmp a.second b.second))) e in
     let two = both_equal (nat_cmp a.version b.version) (ordering_then (nat_cmp a.id b.id) (nat_cmp a.second b.second)) one.second in
     let three = both_equal (nat_cmp a.id b.id) (nat_cmp a.second b.second) two.second in
-    let entity : a.entity ≡ b.entity = entity_is a.entity b.entity (nat_is _ _ one.first) in
+    let entity : a.entity ≡ b.entity = same_entity a.entity b.entity (nat_is _ _ one.first) in
     let version : a.version ≡ b.version = nat_is _ _ two.first in
     let id : a.id ≡ b.id = nat_is _ _ three.first in
     let second : a.second ≡ b.second = nat_is _ _ three.second in
@@ -111,7 +72,7 @@ topic_is (T.RefersTo v o n) (T.RefersTo w p m) e =
     let one = both_equal (nat_cmp v w) (ordering_then (nat_cmp (entity_number o) (entity_number p)) (nat_cmp n m)) e in
     let two = both_equal (nat_cmp (entity_number o) (entity_number p)) (nat_cmp n m) one.second in
     let version : v ≡ w = nat_is v w one.first in
-    let of : o ≡ p = entity_is o p (nat_is _ _ two.first) in
+    let of : o ≡ p = same_entity o p (nat_is _ _ two.first) in
     let id : n ≡ m = nat_is n m two.second in
     λ i. T.RefersTo (version i) (of i) (id i)
 topic_is (T.RefersTo v o n) (T.HasPrint q) e = absurd (cc)

@@ -11,11 +11,11 @@ use Rattle.shop_defs.specs.declared.value.Value.{Value}
 use Rattle.shop_defs.specs.declared.value.Value.TheVariants as V
 use Rattle.shop_defs.specs.Rows.{field_of}
 use Rattle.shop_defs.specs.Tables.{fields_of}
+use Rattle.shop_defs.proofs.EachLine.{same_entity}
 use Rattle.shop_operations.specs.Deletes.{stands_at}
 use Rattle.shop_operations.specs.References.{is_entity}
 use Rattle.shop_operations.specs.Upserts.{same_value, same_given, has_unique, agree_in_unique, is_twin}
 use Rattle.shop_rows.specs.Prints.{with_value, with_field, key_print, print_of}
-use Rattle.shop_rows.proofs.Same.{entity_is}
 
 and_first : (a b : Bool) → (a && b) ≡ true → a ≡ true
 and_first true b e = refl
@@ -105,7 +105,7 @@ twins_share row other version twin =
     let agree : agree_in_unique row.key.entity row other ≡ true = and_second (is_entity row.key.entity other.key.entity && not (stands_at row.key other) && has_unique row.key.entity) (agree_in_unique row.key.entity row other) twin in
     let unique : has_unique row.key.entity ≡ true = and_second (is_entity row.key.entity other.key.entity && not (stands_at row.key other)) (has_unique row.key.entity) parts in
     let entities : is_entity row.key.entity other.key.entity ≡ true = and_first (is_entity row.key.entity other.key.entity) (not (stands_at row.key other)) (and_first (is_entity row.key.entity other.key.entity && not (stands_at row.key other)) (has_unique row.key.entity) parts) in
-    let same : row.key.entity ≡ other.key.entity = entity_is row.key.entity other.key.entity (eqb-true _ _ entities) in
+    let same : row.key.entity ≡ other.key.entity = same_entity row.key.entity other.key.entity (eqb-true _ _ entities) in
     let start : key_print other.key ≡ key_print row.key = λ i. key_print (record other.key { entity = sym same i; version = version i }) in
     let share = fields_shared (fields_of row.key.entity) row other (key_print row.key) agree in
     record {

@@ -8,12 +8,13 @@ use Rattle.shop_defs.specs.declared.entity.Entity.{Entity}
 use Rattle.shop_defs.specs.declared.row.Row.{Row}
 use Rattle.shop_defs.specs.declared.table.Reference.{Reference}
 use Rattle.shop_defs.specs.declared.table.TheConstants.{REFERENCES, LEVEL_LIMITS}
+use Rattle.shop_defs.proofs.EachLine.{same_entity}
 use Rattle.shop_operations.specs.References.{is_entity, is_id, named, is_one}
 use Rattle.shop_operations.specs.Parents.{is_parental, parent_id, parent_row, walk, is_child, is_past, is_deep}
 use Rattle.closure.specs.Closure.{IsIn}
 use Rattle.closure.proofs.Members.{Found, any_is, any_of, all_at, all_from}
 use Rattle.shop_soundness.proofs.Lists.{no_some, find_of}
-use Rattle.shop_soundness.proofs.Tables.{same_entity, levels_have_room}
+use Rattle.shop_soundness.proofs.Tables.{levels_have_room}
 
 -- ---- parents
 

@@ -13,8 +13,9 @@ use Rattle.shop_defs.specs.declared.table.Reference.{Reference}
 use Rattle.shop_defs.specs.declared.table.Part.{Part}
 use Rattle.shop_defs.specs.declared.table.Part.TheVariants as P
 use Rattle.shop_defs.specs.Rows.{field_in, field_of}
+use Rattle.shop_defs.proofs.EachLine.{same_entity}
 use Rattle.shop_operations.specs.References.{sets_null, is_entity, ident, is_id, part_of, named, ties}
-use Rattle.shop_soundness.proofs.Tables.{same_entity, is_never_emptied}
+use Rattle.shop_soundness.proofs.Tables.{is_never_emptied}
 use Rattle.shop_operations.specs.Deletes.{is_field, goes, gone, kept, is_emptied, emptied, deleted}
 use Rattle.shop_soundness.proofs.Fields.{field_filter}
 use Rattle.shop_soundness.proofs.Lists.{no_some}

@@ -11,6 +11,7 @@ use Rattle.shop_defs.specs.declared.row.Row.{Row}
 use Rattle.shop_defs.specs.declared.table.OwnerLimit.{OwnerLimit}
 use Rattle.shop_defs.specs.declared.table.TheConstants.{REFERENCES, OWNER_LIMITS, MOST_ROWS}
 use Rattle.shop_defs.specs.Rows.{row_key}
+use Rattle.shop_defs.proofs.EachLine.{same_entity}
 use Rattle.shop_operations.specs.References.{is_entity, part_of}
 use Rattle.shop_operations.specs.Deletes.{goes, gone, kept, emptied, deleted}
 use Rattle.shop_operations.specs.Upserts.{place_cmp, with_row, same_id, is_of_owner, count_of, owner_is_full, too_many}
@@ -19,7 +20,6 @@ use Rattle.closure.proofs.Members.{Found, any_is, any_of, all_at, all_from, none
 use Rattle.shop_soundness.proofs.Accepted.{map_none}
 use Rattle.shop_soundness.proofs.Emptied.{part_then, IsLeft, of_deleted, id_of_tie}
 use Rattle.shop_soundness.proofs.Lists.{put_of, put_count, count_under, count_filter, count_map}
-use Rattle.shop_soundness.proofs.Tables.{same_entity}
 
 -- ---- of an entity
 

@@ -18,7 +18,7 @@ use Rattle.shop_defs.specs.Fitting.{field_fits, given_fits, is_writable, line_fi
 use Rattle.shop_defs.specs.Presets.{is_needed, is_there, preset_of}
 use Rattle.shop_defs.specs.Rows.{field_of}
 use Rattle.shop_defs.specs.Tables.{field_at, fields_of}
-use Rattle.shop_defs.proofs.EachLine.{IsLineOf, each_line, of_fields, numbered, preset_fits}
+use Rattle.shop_defs.proofs.EachLine.{IsLineOf, each_line, of_fields, numbered, preset_fits, same_entity}
 use Rattle.shop_defs.proofs.TableLaws.{counts_from, presets_are_values}
 use Rattle.shop_operations.specs.Deletes.{is_emptied, emptied}
 use Rattle.shop_operations.specs.Upserts.{field_number, field_name, give, fill, row_in, left, bare_row, missing_required}
@@ -29,7 +29,7 @@ use Rattle.shop_soundness.proofs.Gives.{Rises, given_rise, filled_rise, as_given
 use Rattle.shop_soundness.proofs.InOrder.{ascends_filter}
 use Rattle.shop_soundness.proofs.Lefts.{row_before, was_there}
 use Rattle.shop_soundness.proofs.Lists.{each_of, of_each, find_of}
-use Rattle.shop_soundness.proofs.Tables.{same_entity, is_never_emptied, needed_are_never_emptied}
+use Rattle.shop_soundness.proofs.Tables.{is_never_emptied, needed_are_never_emptied}
 
 -- ---- fields that fit
 

@@ -18,6 +18,7 @@ use Rattle.shop_defs.specs.Fitting.{is_writable}
 use Rattle.shop_defs.specs.References.{acts_on_delete}
 use Rattle.shop_defs.specs.Rows.{row_key}
 use Rattle.shop_defs.proofs.TableLaws.{kept_are_not_written}
+use Rattle.shop_defs.proofs.EachLine.{same_entity}
 use Rattle.shop_operations.specs.References.{is_entity, is_id, part_of, named, is_one, ties, cascades, restricts, sets_null, falls_at, falls_with, holds_back, is_there, is_met, is_grounded, are_grounded}
 use Rattle.shop_operations.specs.Deletes.{stands_at, goes, gone, kept, in_use, is_field, is_emptied, emptied, deleted}
 use Rattle.shop_operations.specs.Upserts.{place_cmp, row_in, with_row, left, bare_row, gives, gives_part, missing_reference}
@@ -29,7 +30,7 @@ use Rattle.shop_soundness.proofs.Emptied.{named_part, named_then, ident_kept, id
 use Rattle.shop_soundness.proofs.Lefts.{left_key, left_ident, was_there}
 use Rattle.shop_soundness.proofs.Lists.{no_some, put_has, put_keeps, put_of}
 use Rattle.shop_soundness.proofs.Places.{at_one_place, stands_place}
-use Rattle.shop_soundness.proofs.Tables.{same_entity, is_in_field, emptied_are_fields, cascades_are_written}
+use Rattle.shop_soundness.proofs.Tables.{is_in_field, emptied_are_fields, cascades_are_written}
 
 -- what an old row names
 pub old_met : (rows : List Row) (row : Row) (reference : Reference) → are_grounded REFERENCES rows ≡ true → IsIn row rows → IsIn reference REFERENCES → is_met reference rows row ≡ true

@@ -19,6 +19,7 @@ use Rattle.shop_defs.specs.Fitting.{given_fits, is_writable, parts_fit}
 use Rattle.shop_requests.specs.Operations.{reading, reading_as, refusal, read, if_writable, unless_refused}
 use Rattle.shop_defs.specs.Rows.{row_key}
 use Rattle.shop_defs.specs.Tables.{info_named}
+use Rattle.shop_defs.proofs.EachLine.{same_entity}
 use Rattle.shop_requests.proofs.ReadFits.{read_fits, read_key_fits, read_is_writable}
 use Rattle.shop_soundness.specs.Batches.{if_read, done, numbered, batch}
 use Rattle.shop_operations.specs.Deletes.{goes, gone, is_field, is_emptied, emptied, deleted, in_use}
@@ -34,7 +35,7 @@ use Rattle.shop_soundness.proofs.Grounded.{goes_writable}
 use Rattle.shop_soundness.proofs.Lefts.{left_key, row_before, left_place}
 use Rattle.shop_soundness.proofs.Lists.{filter_all, put_filter, kept_filter, put_of}
 use Rattle.shop_soundness.proofs.Places.{at_one_place}
-use Rattle.shop_soundness.proofs.Tables.{same_entity, emptied_are_written}
+use Rattle.shop_soundness.proofs.Tables.{emptied_are_written}
 
 -- ---- rows that operations may not write
 

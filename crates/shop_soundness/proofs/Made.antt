@@ -16,6 +16,7 @@ use Rattle.shop_defs.specs.declared.value.Value.{Value}
 use Rattle.shop_requests.specs.Operations.{reading}
 use Rattle.shop_defs.specs.Rows.{row_key}
 use Rattle.shop_defs.specs.Tables.{fields_of}
+use Rattle.shop_defs.proofs.EachLine.{same_entity}
 use Rattle.shop_soundness.specs.Batches.{if_read, done, numbered, batch}
 use Rattle.shop_operations.specs.Deletes.{gone, in_use, is_emptied, deleted}
 use Rattle.shop_operations.specs.Operations.{place, upserted, in_use_by, removed, by_kind, operated}
@@ -28,7 +29,6 @@ use Rattle.shop_soundness.proofs.Gives.{as_given, given_of, IsPresetOf, filled_o
 use Rattle.shop_soundness.proofs.Lefts.{row_before, was_there, left_place}
 use Rattle.shop_soundness.proofs.Lists.{put_of}
 use Rattle.shop_soundness.proofs.Places.{AtOnePlace}
-use Rattle.shop_soundness.proofs.Tables.{same_entity}
 
 -- a row that was there
 old_row : (rows : List Row) (row : Row) → IsIn row rows → HadRow rows row.key

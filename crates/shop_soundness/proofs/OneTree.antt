@@ -15,6 +15,7 @@ use Rattle.shop_defs.specs.Entities.{entity_number}
 use Rattle.shop_defs.specs.Fitting.{row_key_fits}
 use Rattle.shop_defs.specs.Rows.{field_of, row_key}
 use Rattle.shop_defs.specs.Tables.{fields_of}
+use Rattle.shop_defs.proofs.EachLine.{same_entity}
 use Rattle.shop_operations.specs.References.{is_entity, is_id, part_of, named, is_one, ties, is_there, are_grounded}
 use Rattle.shop_operations.specs.Deletes.{stands_at, gone, emptied, deleted}
 use Rattle.shop_operations.specs.Upserts.{place_cmp, row_in, with_row, left, bare_row, gives, gives_part, agree_in, agree_within, is_of_tree, fixed_field, missing_reference}
@@ -29,7 +30,7 @@ use Rattle.shop_soundness.proofs.Lefts.{left_key, left_ident, was_there}
 use Rattle.shop_soundness.proofs.Lists.{or_not, no_some, put_of, finds}
 use Rattle.shop_soundness.proofs.Ones.{one_at}
 use Rattle.shop_soundness.proofs.Places.{AtOnePlace, place_stands, place_back, place_on}
-use Rattle.shop_soundness.proofs.Tables.{same_entity, is_fixed, is_never_emptied, tree_is_fixed, trees_are_fixed}
+use Rattle.shop_soundness.proofs.Tables.{is_fixed, is_never_emptied, tree_is_fixed, trees_are_fixed}
 use Rattle.shop_soundness.proofs.Values.{value_same, same_from}
 
 -- each row that names another by a reference is of its tree

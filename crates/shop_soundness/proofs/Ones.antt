@@ -13,13 +13,14 @@ use Rattle.shop_defs.specs.declared.table.TheConstants.{REFERENCES}
 use Rattle.shop_defs.specs.Entities.{entity_number}
 use Rattle.shop_defs.specs.Fitting.{key_fits, line_key_fits, row_key_fits}
 use Rattle.shop_defs.specs.Tables.{info_of}
+use Rattle.shop_defs.proofs.EachLine.{same_entity}
 use Rattle.shop_operations.specs.References.{is_entity, is_one}
 use Rattle.shop_operations.specs.Views.{IsInPlaceOrder}
 use Rattle.closure.specs.Closure.{IsIn}
 use Rattle.closure.proofs.Members.{all_at}
 use Rattle.shop_soundness.proofs.Places.{AreFormed}
 use Rattle.shop_soundness.proofs.Places.{AtOnePlace, same_row}
-use Rattle.shop_soundness.proofs.Tables.{same_entity, line_has_one_part, has_one_part, named_have_one_part}
+use Rattle.shop_soundness.proofs.Tables.{line_has_one_part, has_one_part, named_have_one_part}
 
 -- the second part of a key of one part is 0
 second_is_zero : (line : Option EntityInfo) (id second : ℕ) → line_has_one_part line ≡ true → line_key_fits line id second ≡ true → second ≡ 0

@@ -14,6 +14,7 @@ use Rattle.shop_defs.specs.declared.table.TheConstants.{REFERENCES, LEVEL_LIMITS
 use Rattle.shop_defs.specs.Entities.{entity_number}
 use Rattle.shop_defs.specs.Fitting.{row_key_fits}
 use Rattle.shop_defs.specs.Rows.{row_key}
+use Rattle.shop_defs.proofs.EachLine.{same_entity}
 use Rattle.shop_operations.specs.References.{is_entity, part_of, named, is_one, is_there, are_grounded}
 use Rattle.shop_operations.specs.Parents.{is_parental, parent_id, parent_row, walk, is_child, is_below, is_deep}
 use Rattle.shop_operations.specs.Deletes.{stands_at, gone, emptied, deleted}
@@ -31,7 +32,6 @@ use Rattle.shop_soundness.proofs.Lefts.{left_key, left_ident, was_there}
 use Rattle.shop_soundness.proofs.Lists.{no_some, put_find, put_has, put_of, find_of, finds}
 use Rattle.shop_soundness.proofs.Ones.{one_at, one_alone}
 use Rattle.shop_soundness.proofs.Places.{AtOnePlace, at_one_place, same_row, place_on, place_back, place_stands}
-use Rattle.shop_soundness.proofs.Tables.{same_entity}
 
 -- ---- upserts that give a parent
 

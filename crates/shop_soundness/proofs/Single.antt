@@ -12,6 +12,7 @@ use Rattle.shop_defs.specs.declared.value.Value.{Value}
 use Rattle.shop_defs.specs.Entities.{entity_number}
 use Rattle.shop_defs.specs.Rows.{field_of, row_key}
 use Rattle.shop_defs.specs.Tables.{fields_of}
+use Rattle.shop_defs.proofs.EachLine.{same_entity}
 use Rattle.shop_operations.specs.References.{is_entity}
 use Rattle.shop_operations.specs.Deletes.{stands_at, gone, emptied, deleted}
 use Rattle.shop_operations.specs.Upserts.{place_cmp, with_row, same_given, has_unique, agree_in_unique, is_twin, duplicate}
@@ -21,7 +22,6 @@ use Rattle.shop_soundness.proofs.Accepted.{map_none}
 use Rattle.shop_soundness.proofs.Emptied.{value_kept, IsLeft, of_deleted}
 use Rattle.shop_soundness.proofs.Lists.{or_not, put_of}
 use Rattle.shop_soundness.proofs.Places.{stands_place, place_stands, place_back}
-use Rattle.shop_soundness.proofs.Tables.{same_entity}
 use Rattle.shop_soundness.proofs.Values.{value_same, same_from}
 
 -- no row has a twin among them

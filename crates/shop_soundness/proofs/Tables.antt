@@ -4,7 +4,6 @@ use Rattle.std.specs.Prelude.{◌&&◌, ◌||◌, ◌==◌, not, nat_le}
 use Rattle.std.specs.List.{find, list_all, list_any}
 use Rattle.std.specs.Option.{option_map}
 use Rattle.shop_defs.specs.declared.entity.Entity.{Entity}
-use Rattle.shop_defs.specs.declared.entity.Entity.TheVariants as E
 use Rattle.shop_defs.specs.declared.table.EntityInfo.{EntityInfo}
 use Rattle.shop_defs.specs.declared.table.KeyForm.{KeyForm}
 use Rattle.shop_defs.specs.declared.table.KeyForm.TheVariants.{OnePart, TwoParts}
@@ -19,45 +18,6 @@ use Rattle.shop_defs.specs.Tables.{fields_of, info_of}
 use Rattle.shop_defs.proofs.TableLaws.{of_all_fields}
 use Rattle.shop_operations.specs.Deletes.{is_field}
 use Rattle.shop_operations.specs.References.{is_entity, cascades, sets_null}
-
--- ---- entities
-
--- the entity with a number
-abbrev entity_with : ℕ → Option Entity
-entity_with number = option_map (λ info. info.entity) (find (λ info. entity_number info.entity == number) ENTITIES)
-
-found_again : (entity : Entity) → entity_with (entity_number entity) ≡ Some entity
-found_again E.Language = refl
-found_again E.Tax = refl
-found_again E.Category = refl
-found_again E.CategoryTranslation = refl
-found_again E.Product = refl
-found_again E.ProductTranslation = refl
-found_again E.ProductCategory = refl
-found_again E.ProductPrice = refl
-found_again E.Stream = refl
-found_again E.StreamFilter = refl
-found_again E.Rule = refl
-found_again E.RuleCondition = refl
-found_again E.Promotion = refl
-found_again E.PromotionDiscount = refl
-found_again E.ShippingMethod = refl
-found_again E.ShippingPrice = refl
-found_again E.Stock = refl
-found_again E.Cart = refl
-found_again E.CartLine = refl
-found_again E.CartCode = refl
-found_again E.Order = refl
-found_again E.OrderLine = refl
-found_again E.OrderTax = refl
-found_again E.Draft = refl
-found_again E.DraftCommit = refl
-
--- entities with one number are one
-pub same_entity : (a b : Entity) → entity_number a ≡ entity_number b → a ≡ b
-same_entity a b e =
-    let chain : Some a ≡ Some b = sym (found_again a) ∙ (ap entity_with e ∙ found_again b) in
-    cc
 
 -- ---- references
 

@@ -1,52 +1,81 @@
 -- What the tables of references and levels say of parents.
-use Rattle.std.proofs.Common.{◌≡◌, ℕ, Bool, true, false, ◌&&◌, ◌||◌, List, refl, ap, Option, Some, None}
-use Rattle.std.specs.Prelude.{◌==◌, find, is_some, is_none, nat_le}
+use Rattle.std.proofs.Common.{◌≡◌, ℕ, Bool, true, false, cond, ◌&&◌, ◌||◌, if◌then◌else◌, List, [], ◌∷◌, refl, ap, ◌∙◌, Option, Some, None}
+use Rattle.std.specs.Prelude.{◌==◌, find, is_some, is_none, nat_le, not}
 use Rattle.std.specs.List.{list_any}
 use Rattle.std.specs.Option.{option_map, option_map_or, option_and_then}
 use Rattle.shop_defs.specs.declared.entity.Entity.{Entity}
-use Rattle.shop_defs.specs.declared.entity.Entity.TheVariants as E
 use Rattle.shop_defs.specs.declared.row.Row.{Row}
 use Rattle.shop_defs.specs.declared.table.Reference.{Reference}
 use Rattle.shop_defs.specs.declared.table.LevelLimit.{LevelLimit}
 use Rattle.shop_defs.specs.declared.table.TheConstants.{REFERENCES, LEVEL_LIMITS}
 use Rattle.shop_defs.specs.Entities.{entity_number}
 use Rattle.shop_defs.specs.Tables.{info_of}
+use Rattle.shop_defs.proofs.EachLine.{each_entity}
 use Rattle.shop_operations.specs.Parents.{is_parental, parent_id, is_past, is_deep}
 use Rattle.shop_operations.specs.References.{is_entity, named}
 use Rattle.shop_write.specs.Writes.{has_one_part, limit_of}
 
 one_part_by : (entity : Entity) → (is_none (find (is_parental entity) REFERENCES) || has_one_part entity) ≡ true
 unfolding has_one_part info_of
-one_part_by E.Language = refl
-one_part_by other = refl
+one_part_by = each_entity (λ entity. is_none (find (is_parental entity) REFERENCES) || has_one_part entity) refl
 
 limited_by : (entity : Entity) → (is_none (find (is_parental entity) REFERENCES) || is_some (limit_of entity)) ≡ true
 unfolding limit_of
-limited_by E.Language = refl
-limited_by other = refl
+limited_by = each_entity (λ entity. is_none (find (is_parental entity) REFERENCES) || is_some (limit_of entity)) refl
 
 limited_one_part : (entity : Entity) → (is_none (limit_of entity) || has_one_part entity) ≡ true
 unfolding has_one_part info_of limit_of
-limited_one_part E.Language = refl
-limited_one_part other = refl
+limited_one_part = each_entity (λ entity. is_none (limit_of entity) || has_one_part entity) refl
 
 pub few_levels : (entity : Entity) → option_map_or (λ most. nat_le most 32) (limit_of entity) true ≡ true
 unfolding limit_of
-few_levels E.Language = refl
-few_levels other = refl
+few_levels = each_entity (λ entity. option_map_or (λ most. nat_le most 32) (limit_of entity) true) refl
 
 or_false : (b : Bool) → (b || false) ≡ b
 or_false true = refl
 or_false false = refl
 
+abbrev is_for : Entity → LevelLimit → Bool
+is_for entity limit = is_entity limit.entity entity
+
+-- no limit passes a test on those of an entity that has none
+none_for : (entity : Entity) (past : ℕ → Bool) (limits : List LevelLimit) → list_any (is_for entity) limits ≡ false → list_any (λ limit. is_for entity limit && past limit.most) limits ≡ false
+none_for entity past [] none = refl
+none_for entity past (limit ∷ rest) none = by (is_for entity limit) (none_for entity past rest) none
+  where
+    by : (own : Bool) → (list_any (is_for entity) rest ≡ false → list_any (λ limit. is_for entity limit && past limit.most) rest ≡ false) → (own || list_any (is_for entity) rest) ≡ false
+        → ((own && past limit.most) || list_any (λ limit. is_for entity limit && past limit.most) rest) ≡ false
+    by true more none = absurd cc
+    by false more none = more none
+
+-- each entity has one limit at most
+abbrev is_once : Entity → List LevelLimit → Bool
+is_once entity [] = true
+is_once entity (limit ∷ rest) = if is_for entity limit then not (list_any (is_for entity) rest) else is_once entity rest
+
+limits_once : (entity : Entity) → is_once entity LEVEL_LIMITS ≡ true
+limits_once = each_entity (λ entity. is_once entity LEVEL_LIMITS) refl
+
+deep_in : (entity : Entity) (past : ℕ → Bool) (limits : List LevelLimit) → is_once entity limits ≡ true
+    → list_any (λ limit. is_for entity limit && past limit.most) limits ≡ option_map_or past (option_map (λ limit. limit.most) (find (is_for entity) limits)) false
+deep_in entity past [] once = refl
+deep_in entity past (limit ∷ rest) once = by (is_for entity limit) (deep_in entity past rest) (none_for entity past rest) once
+  where
+    by : (own : Bool)
+        → (is_once entity rest ≡ true → list_any (λ limit. is_for entity limit && past limit.most) rest ≡ option_map_or past (option_map (λ limit. limit.most) (find (is_for entity) rest)) false)
+        → (list_any (is_for entity) rest ≡ false → list_any (λ limit. is_for entity limit && past limit.most) rest ≡ false)
+        → (if own then not (list_any (is_for entity) rest) else is_once entity rest) ≡ true
+        → ((own && past limit.most) || list_any (λ limit. is_for entity limit && past limit.most) rest) ≡ option_map_or past (option_map (λ limit. limit.most) (cond own (Some limit) (find (is_for entity) rest))) false
+    by true more none once = ap (λ others. past limit.most || others) (none (is_false (list_any (is_for entity) rest) once)) ∙ or_false (past limit.most)
+    by false more none once = more once
+
+    is_false : (b : Bool) → not b ≡ true → b ≡ false
+    is_false true e = absurd cc
+    is_false false e = refl
+
 deep_by : (entity : Entity) (past : ℕ → Bool) → list_any (λ limit. is_entity limit.entity entity && past limit.most) LEVEL_LIMITS ≡ option_map_or past (limit_of entity) false
 unfolding limit_of
-deep_by E.Language past = or_false (past 2)
-deep_by E.Category past = or_false (past 32)
-deep_by E.Product past = or_false (past 2)
-deep_by E.StreamFilter past = or_false (past 8)
-deep_by E.RuleCondition past = or_false (past 8)
-deep_by other past = refl
+deep_by entity past = deep_in entity past LEVEL_LIMITS (limits_once entity)
 
 parental_in : (table : List Reference) (row : Row) (id : ℕ) → parent_id table row ≡ Some id → is_none (find (is_parental row.key.entity) table) ≡ false
 unfolding parent_id
