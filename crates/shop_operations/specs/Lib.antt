@@ -5,3 +5,4 @@ pub mod Upserts
 pub mod Views
 pub mod Operations
 pub mod Soundness
+pub mod Outcomes

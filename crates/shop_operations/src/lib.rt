@@ -7,6 +7,9 @@
 //!   plain words). The functions here are what these are made of on one row or two; each is proved
 //!   to be its definition.
 //! - `given_to` is the row that an upsert leaves of another: what is given, then the presets.
+//!   `law_of_the_given_row` says in words what it has of each field.
+//! - `specs/Outcomes.antt` says in words what an accepted operation leaves (`Leaves`); that
+//!   `operated` does so is a law of `shop_soundness`.
 //! - `fixed_field` and `missing_required` are the refusals of a row alone, with the field of the
 //!   least name; `first_fixed` and `first_missing` find it without memory.
 //! - `refuse_reference` is the refusal of a reference, by `reference_name`; `gives`, `gives_part`
@@ -17,12 +20,14 @@
 #![tactic(auto)]
 
 mod given;
+mod laws;
 mod places;
 mod references;
 mod twins;
 mod written;
 
 pub use given::{bare_row, given_to};
+pub use laws::law_of_the_given_row;
 pub use places::stands_at;
 pub use references::{falls_with, is_id, named, part_of, refers_to, restricts, sets_null, ties};
 pub use twins::{agree_in, has_unique, is_twin, same_value};

@@ -1,4 +1,4 @@
--- What a row's fields are after some are taken out, given or filled.
+-- What a row's fields are after some are taken out, and which ids presets give.
 use Rattle.std.proofs.Common.{◌≡◌, ℕ, Bool, true, false, List, [], ◌∷◌, refl, sym, ap, subst, ◌∙◌, Option, Some, None, arith}
 use Rattle.std.specs.Prelude.{◌==◌, filter, cond, nat_eq, is_some, if◌then◌else◌}
 use Rattle.std.specs.List.{fold, list_any}
@@ -20,6 +20,7 @@ use Rattle.shop_defs.specs.Presets.{preset_in, preset_of}
 use Rattle.shop_defs.specs.Rows.{field_in}
 use Rattle.shop_operations.specs.References.{ident}
 use Rattle.shop_operations.specs.Upserts.{field_number, give, fill}
+use Rattle.shop_operations.proofs.Fields.{put_same, without_none, give_other}
 use Rattle.shop_soundness.proofs.Lists.{no_some}
 use Rattle.shop_soundness.proofs.Places.{same_number}
 
@@ -37,65 +38,6 @@ field_filter keeps (entry ∷ rest) number = by (field_filter keeps rest number)
     by more true e false f = rw f more
     by more false e true f = more ∙ rw (← ap keeps (eqb-true _ _ f), e) refl
     by more false e false f = more
-
--- ---- a field that is put or taken out
-
-pub put_other : (fields : List (ℕ × Value)) (number at : ℕ) (value : Value) → nat_eq at number ≡ false → field_in (put nat_cmp field_number fields (at, value)) number ≡ field_in fields number
-put_other [] number at value e = rw e refl
-put_other (x ∷ xs) number at value e = by (put_other xs number at value e) (nat_cmp x.0 at) refl
-  where
-    by : field_in (put nat_cmp field_number xs (at, value)) number ≡ field_in xs number → (o : Ordering) → nat_cmp x.0 at ≡ o → field_in (match_ordering o (x ∷ put nat_cmp field_number xs (at, value)) ((at, value) ∷ xs) ((at, value) ∷ x ∷ xs)) number ≡ field_in (x ∷ xs) number
-    by more Less f = rw more refl
-    by more Equal f = rw (e, same_number x.0 at f, e) refl
-    by more Greater f = rw e refl
-
-pub put_same : (fields : List (ℕ × Value)) (at : ℕ) (value : Value) → field_in (put nat_cmp field_number fields (at, value)) at ≡ Some value
-put_same [] at value = rw (eq-eqb at at refl) refl
-put_same (x ∷ xs) at value = by (put_same xs at value) (nat_cmp x.0 at) refl
-  where
-    own : nat_eq at at ≡ true
-    own = eq-eqb at at refl
-
-    by : field_in (put nat_cmp field_number xs (at, value)) at ≡ Some value → (o : Ordering) → nat_cmp x.0 at ≡ o → field_in (match_ordering o (x ∷ put nat_cmp field_number xs (at, value)) ((at, value) ∷ xs) ((at, value) ∷ x ∷ xs)) at ≡ Some value
-    by more Less f = other (nat_eq x.0 at) refl
-      where
-        other : (b : Bool) → nat_eq x.0 at ≡ b → (if b then Some x.1 else field_in (put nat_cmp field_number xs (at, value)) at) ≡ Some value
-        other true e = absurd (omega (arith, eqb-true x.0 at e, ranked x.0 at Less (sym f)))
-        other false e = more
-    by more Equal f = rw own refl
-    by more Greater f = rw own refl
-
-pub without_other : (fields : List (ℕ × Value)) (number at : ℕ) → nat_eq at number ≡ false → field_in (without nat_cmp field_number fields at) number ≡ field_in fields number
-without_other [] number at e = refl
-without_other (x ∷ xs) number at e = by (without_other xs number at e) (nat_cmp x.0 at) refl
-  where
-    by : field_in (without nat_cmp field_number xs at) number ≡ field_in xs number → (o : Ordering) → nat_cmp x.0 at ≡ o → field_in (if is_eq o then xs else x ∷ without nat_cmp field_number xs at) number ≡ field_in (x ∷ xs) number
-    by more Less f = rw more refl
-    by more Equal f = rw (same_number x.0 at f, e) refl
-    by more Greater f = rw more refl
-
--- what isn't there isn't there when another is taken out
-pub without_none : (fields : List (ℕ × Value)) (number at : ℕ) → field_in fields number ≡ None → field_in (without nat_cmp field_number fields at) number ≡ None
-without_none [] number at e = refl
-without_none (x ∷ xs) number at e = by (without_none xs number at) (nat_eq x.0 number) refl (is_eq (nat_cmp x.0 at)) e
-  where
-    by : (field_in xs number ≡ None → field_in (without nat_cmp field_number xs at) number ≡ None) → (b : Bool) → nat_eq x.0 number ≡ b → (c : Bool) → (if b then Some x.1 else field_in xs number) ≡ None → field_in (if c then xs else x ∷ without nat_cmp field_number xs at) number ≡ None
-    by more true f c g = absurd (no_some x.1 (sym g))
-    by more false f true g = g
-    by more false f false g = rw f (more g)
-
--- ---- a field that is given
-
-pub give_other : (fields : List (ℕ × Value)) (number at : ℕ) (value : Option Value) → nat_eq at number ≡ false → field_in (give fields (at, value)) number ≡ field_in fields number
-give_other fields number at None e = without_other fields number at e
-give_other fields number at (Some value) e = put_other fields number at value e
-
--- a field that isn't given is as it was
-pub given_other : (entries : List (ℕ × Option Value)) (fields : List (ℕ × Value)) (number : ℕ) → list_any (λ entry. entry.0 == number) entries ≡ false → field_in (fold give fields entries) number ≡ field_in fields number
-given_other [] fields number e = refl
-given_other (entry ∷ rest) fields number e =
-    let parts = or_parts (entry.0 == number) (list_any (λ x. x.0 == number) rest) e in
-    given_other rest (give fields entry) number parts.1 ∙ give_other fields number entry.0 entry.1 parts.0
 
 -- ---- presets
 

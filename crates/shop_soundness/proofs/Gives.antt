@@ -13,7 +13,7 @@ use Rattle.shop_defs.specs.declared.value.Value.{Value}
 use Rattle.shop_defs.specs.Presets.{preset_of}
 use Rattle.shop_defs.specs.Rows.{field_in}
 use Rattle.shop_operations.specs.Upserts.{field_number, give, fill}
-use Rattle.shop_soundness.proofs.Fields.{put_same, give_other}
+use Rattle.shop_operations.proofs.Fields.{put_same, give_other}
 use Rattle.shop_soundness.proofs.Lists.{put_of}
 
 -- ---- each field once, by rising numbers

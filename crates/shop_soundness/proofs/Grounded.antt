@@ -24,7 +24,8 @@ use Rattle.shop_operations.specs.Deletes.{stands_at, goes, gone, kept, in_use, i
 use Rattle.shop_operations.specs.Upserts.{place_cmp, row_in, with_row, left, bare_row, gives, gives_part, missing_reference}
 use Rattle.closure.specs.Closure.{IsIn}
 use Rattle.closure.proofs.Members.{Found, any_is, any_of, all_at, all_from, in_filter, in_map, none_passes}
-use Rattle.closure.proofs.Laws.{IsClosed, reached_closed, reached_least}
+use Rattle.closure.specs.Least.{IsClosed}
+use Rattle.closure.proofs.Laws.{reached_closed, reached_least}
 use Rattle.shop_soundness.proofs.Accepted.{given_met}
 use Rattle.shop_soundness.proofs.Emptied.{named_part, named_then, ident_kept, id_of_tie, IsLeft, of_deleted}
 use Rattle.shop_soundness.proofs.Lefts.{left_key, left_ident, was_there}

@@ -11,7 +11,8 @@ use Rattle.shop_operations.specs.Deletes.{stands_at}
 use Rattle.shop_operations.specs.References.{ident}
 use Rattle.shop_operations.specs.Upserts.{give, left, row_in, bare_row, gives}
 use Rattle.closure.specs.Closure.{IsIn}
-use Rattle.shop_soundness.proofs.Fields.{given_other, filled_ident}
+use Rattle.shop_operations.proofs.Fields.{given_other}
+use Rattle.shop_soundness.proofs.Fields.{filled_ident}
 use Rattle.shop_soundness.proofs.Lists.{find_of}
 use Rattle.shop_soundness.proofs.Places.{AtOnePlace, stands_place, place_back}
 

@@ -19,3 +19,4 @@ pub mod Gives
 pub mod Formed
 pub mod Kept
 pub mod Made
+pub mod Outcomes

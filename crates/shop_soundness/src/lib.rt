@@ -11,9 +11,12 @@
 //! - `formed`: each row is as its entity has it, and rows that operations may not write are just as
 //!   they were.
 //! - `origins`: no row and no value is made up. `start`: a view without rows is coherent.
+//! - `outcomes`: what an accepted operation leaves, in words (`Leaves` of `shop_operations`), and a
+//!   batch what its operations leave, one after the other.
 #![tactic(auto)]
 
 ghost use Rattle.shop_soundness.specs.Coherence.{NoRowsAreCoherent, OperationsKeepCoherence, BatchesKeepCoherence};
+ghost use Rattle.shop_soundness.specs.Outcomes.{OperationsLeave, BatchesLeave};
 ghost use Rattle.shop_soundness.specs.Origins.{OperationsMakeUpNothing, BatchesMakeUpNothing};
 ghost use Rattle.shop_soundness.specs.WellFormed.{OperationsKeepRows, BatchesKeepRows};
 
@@ -27,6 +30,9 @@ pub fn law_of_the_operations()
     ensures formed { OperationsKeepRows }
     // Each row was there or is the operation's, and each value was in its row, is given, or is a preset.
     ensures origins { OperationsMakeUpNothing }
+    // An upsert leaves the row at its place with what is given, and all other places as they were; a delete takes out just the
+    // least set that has the row and is closed under the cascades, and empties just the references that may be and name a lost row.
+    ensures outcomes { OperationsLeave }
 {}
 
 /// What an accepted batch keeps, if no operation of it has the id 0.
@@ -37,4 +43,6 @@ pub fn law_of_the_batches()
     ensures formed { BatchesKeepRows }
     // Each row was there or is an operation's, and each value was in its row, is given, or is a preset.
     ensures origins { BatchesMakeUpNothing }
+    // Each operation leaves what the next one finds.
+    ensures outcomes { BatchesLeave }
 {}

@@ -3,7 +3,8 @@ use Rattle.std.proofs.Common.{◌≡◌, ℕ, true, false, ◌⊎◌, inl, inr, 
 use Rattle.std.specs.Prelude.{map}
 use Rattle.std.proofs.lemmas.Bool.{both_ways}
 use Rattle.closure.specs.Closure.{IsIn}
-use Rattle.closure.proofs.Laws.{IsClosed, reached_closed, reached_start, reached_is, Agree, filter_agree_on}
+use Rattle.closure.specs.Least.{IsClosed}
+use Rattle.closure.proofs.Laws.{reached_closed, reached_start, reached_is, Agree, filter_agree_on}
 use Rattle.closure.proofs.Members.{of_map, in_map, Image}
 use Rattle.shop_defs.specs.declared.key.Key.{Key}
 use Rattle.shop_defs.specs.declared.row.Row.{Row}

@@ -56,6 +56,10 @@ is_once entity (limit ∷ rest) = if is_for entity limit then not (list_any (is_
 limits_once : (entity : Entity) → is_once entity LEVEL_LIMITS ≡ true
 limits_once = each_entity (λ entity. is_once entity LEVEL_LIMITS) refl
 
+is_false : (b : Bool) → not b ≡ true → b ≡ false
+is_false true e = absurd cc
+is_false false e = refl
+
 deep_in : (entity : Entity) (past : ℕ → Bool) (limits : List LevelLimit) → is_once entity limits ≡ true
     → list_any (λ limit. is_for entity limit && past limit.most) limits ≡ option_map_or past (option_map (λ limit. limit.most) (find (is_for entity) limits)) false
 deep_in entity past [] once = refl
@@ -68,10 +72,6 @@ deep_in entity past (limit ∷ rest) once = by (is_for entity limit) (deep_in en
         → ((own && past limit.most) || list_any (λ limit. is_for entity limit && past limit.most) rest) ≡ option_map_or past (option_map (λ limit. limit.most) (cond own (Some limit) (find (is_for entity) rest))) false
     by true more none once = ap (λ others. past limit.most || others) (none (is_false (list_any (is_for entity) rest) once)) ∙ or_false (past limit.most)
     by false more none once = more once
-
-    is_false : (b : Bool) → not b ≡ true → b ≡ false
-    is_false true e = absurd cc
-    is_false false e = refl
 
 deep_by : (entity : Entity) (past : ℕ → Bool) → list_any (λ limit. is_entity limit.entity entity && past limit.most) LEVEL_LIMITS ≡ option_map_or past (limit_of entity) false
 unfolding limit_of

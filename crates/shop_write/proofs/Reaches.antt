@@ -4,7 +4,8 @@ use Rattle.std.specs.Prelude.{not, cond, filter, map}
 use Rattle.std.specs.List.{list_any}
 use Rattle.std.proofs.lemmas.Bool.{and_right, false≢true, false_from_ne_true}
 use Rattle.closure.specs.Closure.{IsIn}
-use Rattle.closure.proofs.Laws.{IsClosed, reached_least, filter_agree_on}
+use Rattle.closure.specs.Least.{IsClosed}
+use Rattle.closure.proofs.Laws.{reached_least, filter_agree_on}
 use Rattle.closure.proofs.Members.{of_filter}
 use Rattle.shop_defs.specs.declared.key.Key.{Key}
 use Rattle.shop_defs.specs.declared.op.Op.{Op}
