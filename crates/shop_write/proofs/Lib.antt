@@ -31,3 +31,4 @@ pub mod LiveLooks
 pub mod JoinedKeys
 pub mod Taking
 pub mod BatchSteps
+pub mod Wordings

@@ -9,8 +9,9 @@ use Rattle.shop_defs.specs.declared.row.Row.{Row}
 use Rattle.shop_defs.specs.Joined.{Change}
 use Rattle.shop_defs.specs.Rows.{change_rows}
 use Rattle.shop_soundness.specs.Batches.{done, live_batch}
+use Rattle.shop_soundness.specs.Outcomes.{BatchLeaves}
 use Rattle.shop_operations.specs.References.{live}
-use Rattle.shop_operations.specs.Views.{View, drafted, change_places}
+use Rattle.shop_operations.specs.Views.{View, drafted, live_view, change_places}
 use Rattle.shop_rows.specs.Changing.{StandUnderTheirKeys, HasAscendingKeys}
 use Rattle.shop_write.specs.Growth.{AreLive}
 use Rattle.shop_write.specs.Planning.{IsOfView}
@@ -37,6 +38,11 @@ IsBatchFault rows ops (F.Refused refused) = live_batch rows ops ≡ Err refused
 abbrev pub PlansBatch : List Row → List RawOp → Result Delta PlanFault → Type 0
 PlansBatch rows ops (Ok delta) = IsBatchPlan rows ops delta.changes
 PlansBatch rows ops (Err fault) = IsBatchFault rows ops fault
+
+-- what the changes leave of the live rows is what the operations leave, one after the other, in words
+abbrev pub BatchPlanLeaves : List Row → List RawOp → Result Delta PlanFault → Type 0
+BatchPlanLeaves rows ops (Ok delta) = BatchLeaves (live_view rows) ops (live (change_rows rows delta.changes))
+BatchPlanLeaves rows ops (Err fault) = Unit {0}
 
 -- ---- one operation of it
 

@@ -4,7 +4,7 @@ ghost use Rattle.shop_defs.specs.declared.refused.PlanFault.TheVariants as F;
 ghost use Rattle.shop_soundness.specs.Batches.{done};
 ghost use Rattle.shop_operations.specs.Soundness.{IsCoherent};
 ghost use Rattle.shop_operations.specs.Views.{live_view};
-ghost use Rattle.shop_write.specs.BatchPlans.{HaveIds, PlansBatch, PlansDone, IsNumberedFault};
+ghost use Rattle.shop_write.specs.BatchPlans.{BatchPlanLeaves, HaveIds, PlansBatch, PlansDone, IsNumberedFault};
 ghost use Rattle.shop_write.specs.Growth.{grown, grown_view};
 
 use crate::growing::Growing;
@@ -24,7 +24,10 @@ pub fn plan(alloc: Global, rows: &Rows, ops: &List<RawOp>) -> Result<Delta, Plan
     requires few { length ops.now ≤ 1000 }
     requires ids { HaveIds ops.now }
     requires coherent { IsCoherent (live_view rows.now.list) }
-    ensures { PlansBatch rows.now.list ops.now result }
+    // The changes are those of the batch's definition, or the refusal is.
+    ensures plan { PlansBatch rows.now.list ops.now result }
+    // What each operation leaves to the next one, and the last to the changed rows, in words.
+    ensures leaves { BatchPlanLeaves rows.now.list ops.now result }
 {
     let mut growing = Growing::new(alloc, rows);
     let all = ops.as_slice();

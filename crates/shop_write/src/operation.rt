@@ -4,7 +4,7 @@ ghost use Rattle.shop_defs.specs.Fitting.{op_fits};
 ghost use Rattle.shop_defs.specs.declared.refused.PlanFault.TheVariants as faults;
 ghost use Rattle.shop_operations.specs.Operations as spec;
 ghost use Rattle.shop_operations.specs.Soundness.{IsCoherent};
-ghost use Rattle.shop_write.specs.Planning.{Planned};
+ghost use Rattle.shop_write.specs.Planning.{Planned, PlanLeaves};
 
 use crate::delete::plan_delete;
 use crate::upsert::plan_upsert;
@@ -22,7 +22,10 @@ use std::alloc::Global;
 pub fn plan_op<V: View>(alloc: Global, view: &V, op: &Op, replay: bool) -> Result<Delta, PlanFault>
     requires coherent { op.now.kind ≡ OpKind.Upsert → IsCoherent (V.seen view.now) }
     requires fits { op_fits op.now ≡ true }
-    ensures { Planned (V.seen view.now) op.now replay result }
+    // The changes are those of the operation's definition, or the refusal is.
+    ensures plan { Planned (V.seen view.now) op.now replay result }
+    // What the changes leave, in words.
+    ensures leaves { PlanLeaves (V.seen view.now) op.now result }
 {
     match op.kind {
         OpKind::Upsert => plan_upsert(alloc, view, op),

@@ -1,8 +1,11 @@
 use Rattle.std.proofs.Common.{ap, subst, sym, ◌∙◌, ◌+◌, drop}
 use Rattle.std.proofs.lemmas.List.{drop_all}
+use Rattle.shop_defs.specs.Rows.{change_rows}
 use Rattle.shop_soundness.specs.Batches.{batch, live_batch}
+use Rattle.shop_soundness.proofs.Outcomes.{batches_leave}
+use Rattle.shop_operations.specs.References.{live}
 use Rattle.shop_operations.specs.Soundness.{IsCoherent}
-use Rattle.shop_operations.specs.Views.{View}
+use Rattle.shop_operations.specs.Views.{View, live_view}
 use Rattle.shop_write.specs.BatchPlans.{HaveIds}
 use Rattle.shop_write.specs.Growth.{Growth, grown_view}
 use Rattle.shop_write.proofs.BatchSteps.{view_first, id_at, step_at, coherent_next, plan_is}
@@ -33,7 +36,8 @@ returns c =
     let all = c.as_slice-all.result.now in
     let place = c.loop-place.place in
     let changes = c.in_ok-delta.ensures in
-    plan_is c.loop-place.growing c.args.rows.now.list c.args.ops.now (drop place all) (place + 1) c.in_ok-delta.delta.changes
+    let plan = plan_is c.loop-place.growing c.args.rows.now.list c.args.ops.now (drop place all) (place + 1) c.in_ok-delta.delta.changes
     c.loop-place.invariant.base (drop_all place all c.loop-place-test.false)
     (c.loop-place.invariant.so_far ∙ ap (live_batch c.args.rows.now.list) c.as_slice-all.ensures)
-    changes.changes changes.drafts changes.ascend changes.stand changes.live
+    changes.changes changes.drafts changes.ascend changes.stand changes.live in
+    record { plan = plan; leaves = batches_leave (live_view c.args.rows.now.list) 1 c.args.ops.now (live (change_rows c.args.rows.now.list c.in_ok-delta.delta.changes)) plan.batch }
