@@ -22,6 +22,7 @@ use Rattle.shop_defs.specs.Tables.{field_at}
 use Rattle.shop_operations.specs.Deletes.{stands_at}
 use Rattle.shop_operations.specs.References.{falls_with, holds_back, sets_null, ties}
 use Rattle.shop_operations.specs.Upserts.{bare_row, field_number, given_to, row_in}
+use Rattle.shop_operations.specs.Views.{IsInPlaceOrder}
 
 -- ---- upserts
 
@@ -59,13 +60,14 @@ RowsTakeWhatIsGiven = (op : Op) (row : Row) → TakesWhatIsGiven op row (given_t
 abbrev pub elsewhere : Key → List Row → List Row
 elsewhere key rows = filter (λ row. not (stands_at key row)) rows
 
--- after an upsert at the place: the row that stood there, or one without fields, has what is given, and the rows at all
--- other places are as before
+-- after an upsert at the place: the row that stood there, or one without fields, has what is given, the rows at all other
+-- places are as before, and each place stands once if it did
 pub record UpsertLeaves (key : Key) (op : Op) (before after : List Row) : Type 0 where
   pub row : Row
   pub is_there : row_in after key ≡ Some row
   pub given : TakesWhatIsGiven op (unwrap_or (row_in before key) (bare_row key)) row
   pub others : elsewhere key after ≡ elsewhere key before
+  pub in_order : IsInPlaceOrder before → IsInPlaceOrder after
 
 -- ---- deletes
 

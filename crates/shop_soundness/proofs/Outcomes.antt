@@ -7,6 +7,7 @@ use Rattle.std.specs.declared.cmp.Ordering.TheVariants.{Less, Equal, Greater}
 use Rattle.std.specs.Ordering.{match_ordering}
 use Rattle.std.proofs.lemmas.Bool.{and_from, and_parts, both_ways, eqb-true, eq-eqb, false≢true, false_from_ne_true, not-true}
 use Rattle.keyed.specs.Keyed.{put}
+use Rattle.keyed.proofs.Changes.{ascends_put}
 use Rattle.closure.specs.Closure.{IsIn}
 use Rattle.closure.specs.Least.{IsClosed, IsLeastClosed}
 use Rattle.closure.proofs.Laws.{reached_is_least}
@@ -36,7 +37,7 @@ use Rattle.shop_soundness.specs.Outcomes.{OperationsLeave, BatchLeaves, BatchesL
 use Rattle.shop_soundness.proofs.Accepted.{accepted, same_rows}
 use Rattle.shop_soundness.proofs.Lefts.{left_place}
 use Rattle.shop_soundness.proofs.Lists.{filter_all, put_filter}
-use Rattle.shop_soundness.proofs.Places.{AtOnePlace, at_one_place, place_back, place_on, place_equal, place_stands, stands_place}
+use Rattle.shop_soundness.proofs.Places.{AtOnePlace, at_one_place, place_back, place_on, place_cmp_total, place_equal, place_stands, stands_place}
 
 -- ---- upserts
 
@@ -72,7 +73,7 @@ left_takes rows key op = rows_take_what_is_given op (unwrap_or (row_in rows key)
 
 with_row_leaves : (rows : List Row) (key : Key) (op : Op) → UpsertLeaves key op rows (with_row rows (left rows key op))
 with_row_leaves rows key op =
-    record { row = left rows key op; is_there = found_put rows key (left rows key op) (left_place rows key op); given = left_takes rows key op; others = others_stay rows key (left rows key op) (left_place rows key op) }
+    record { row = left rows key op; is_there = found_put rows key (left rows key op) (left_place rows key op); given = left_takes rows key op; others = others_stay rows key (left rows key op) (left_place rows key op); in_order = ascends_put place_cmp row_key place_cmp_total rows (left rows key op) }
 
 -- ---- deletes
 
