@@ -1,6 +1,6 @@
 -- What a row's fields are after one is put, taken out, given or filled.
 use Rattle.std.proofs.Common.{◌≡◌, ℕ, ◌+◌, ◌<◌, Bool, true, false, List, [], ◌∷◌, refl, sym, ap, subst, ◌∙◌, Option, Some, None, if◌then◌else◌, cond, nat_eq, arith}
-use Rattle.std.specs.Prelude.{◌==◌, is_some, find}
+use Rattle.std.specs.Prelude.{◌==◌, is_some}
 use Rattle.std.specs.List.{fold, list_any, AllByRecursion}
 use Rattle.std.specs.Option.{option_and_then, option_or}
 use Rattle.std.specs.declared.cmp.Ordering.{Ordering}
@@ -10,8 +10,6 @@ use Rattle.std.proofs.lemmas.Cmp.{ranked, nat_cmp_total}
 use Rattle.std.proofs.lemmas.Bool.{and_parts, or_parts, eqb-true, eq-eqb, false≢true}
 use Rattle.keyed.specs.Keyed.{Ascends, put, without}
 use Rattle.keyed.proofs.Changes.{ascends_put, ascends_without}
-use Rattle.shop_defs.specs.declared.op.Op.{Op}
-use Rattle.shop_defs.specs.declared.row.Row.{Row}
 use Rattle.shop_defs.specs.declared.table.FieldInfo.{FieldInfo}
 use Rattle.shop_defs.specs.declared.value.Value.{Value}
 use Rattle.shop_defs.specs.Presets.{preset_of}
@@ -19,7 +17,7 @@ use Rattle.shop_defs.specs.Rows.{field_in}
 use Rattle.shop_defs.specs.Tables.{fields_of, number_in}
 use Rattle.shop_defs.proofs.TableLaws.{counts_from}
 use Rattle.shop_defs.proofs.EachLine.{numbered}
-use Rattle.shop_operations.specs.Outcomes.{later, given_for, preset_at, HasFieldsOnce, TakesWhatIsGiven, RowsTakeWhatIsGiven}
+use Rattle.shop_operations.specs.Outcomes.{later, given_for, preset_at, HasFieldsOnce, RowsTakeWhatIsGiven}
 use Rattle.shop_operations.specs.Upserts.{field_number, give, fill, given_to}
 
 same_number : (a b : ℕ) → nat_cmp a b ≡ Equal → a ≡ b

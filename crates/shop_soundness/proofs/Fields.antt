@@ -1,14 +1,9 @@
 -- What a row's fields are after some are taken out, and which ids presets give.
-use Rattle.std.proofs.Common.{◌≡◌, ℕ, Bool, true, false, List, [], ◌∷◌, refl, sym, ap, subst, ◌∙◌, Option, Some, None, arith}
-use Rattle.std.specs.Prelude.{◌==◌, filter, cond, nat_eq, is_some, if◌then◌else◌}
-use Rattle.std.specs.List.{fold, list_any}
+use Rattle.std.proofs.Common.{◌≡◌, ℕ, Bool, true, false, List, [], ◌∷◌, refl, sym, ap, subst, ◌∙◌, Option, Some, None}
+use Rattle.std.specs.Prelude.{filter, cond, nat_eq, is_some, if◌then◌else◌}
+use Rattle.std.specs.List.{fold}
 use Rattle.std.specs.Option.{option_map}
-use Rattle.std.specs.declared.cmp.Ordering.{Ordering}
-use Rattle.std.specs.declared.cmp.Ordering.TheVariants.{Less, Equal, Greater}
-use Rattle.std.specs.Ordering.{nat_cmp, match_ordering, is_eq}
-use Rattle.std.proofs.lemmas.Cmp.{ranked}
-use Rattle.std.proofs.lemmas.Bool.{or_parts, eqb-true, eq-eqb}
-use Rattle.keyed.specs.Keyed.{put, without}
+use Rattle.std.proofs.lemmas.Bool.{eqb-true}
 use Rattle.shop_defs.specs.declared.table.FieldInfo.{FieldInfo}
 use Rattle.shop_defs.specs.declared.table.FieldKind.{FieldKind}
 use Rattle.shop_defs.specs.declared.table.FieldKind.TheVariants as K
@@ -19,10 +14,9 @@ use Rattle.shop_defs.specs.declared.value.Value.TheVariants as V
 use Rattle.shop_defs.specs.Presets.{preset_in, preset_of}
 use Rattle.shop_defs.specs.Rows.{field_in}
 use Rattle.shop_operations.specs.References.{ident}
-use Rattle.shop_operations.specs.Upserts.{field_number, give, fill}
+use Rattle.shop_operations.specs.Upserts.{give, fill}
 use Rattle.shop_operations.proofs.Fields.{put_same, without_none, give_other}
 use Rattle.shop_soundness.proofs.Lists.{no_some}
-use Rattle.shop_soundness.proofs.Places.{same_number}
 
 -- a field that stays is as it was, and one that goes is none
 pub field_filter : (keeps : ℕ → Bool) (fields : List (ℕ × Value)) (number : ℕ) → field_in (filter (λ entry. keeps entry.0) fields) number ≡ (if keeps number then field_in fields number else None)

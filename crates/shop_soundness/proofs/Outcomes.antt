@@ -1,15 +1,13 @@
 -- An accepted operation leaves what its words say.
 use Rattle.std.proofs.Common.{◌≡◌, ℕ, suc, Bool, true, false, List, [], ◌∷◌, refl, sym, ap, subst, ◌∙◌, Option, Some, None}
-use Rattle.std.specs.Prelude.{◌&&◌, not, filter, find, map, unwrap_or, if◌then◌else◌, is_some, Result, Ok, Err}
+use Rattle.std.specs.Prelude.{◌&&◌, not, find, map, unwrap_or, is_some, Result, Ok, Err}
 use Rattle.std.specs.List.{list_any}
 use Rattle.std.specs.declared.cmp.Ordering.{Ordering}
 use Rattle.std.specs.declared.cmp.Ordering.TheVariants.{Less, Equal, Greater}
 use Rattle.std.specs.Ordering.{match_ordering}
-use Rattle.std.proofs.lemmas.Bool.{and_from, and_parts, both_ways, eqb-true, eq-eqb, false≢true, false_from_ne_true, not-true}
-use Rattle.keyed.specs.Keyed.{put}
+use Rattle.std.proofs.lemmas.Bool.{and_from, and_parts, both_ways, eqb-true, eq-eqb, false≢true, false_from_ne_true}
 use Rattle.keyed.proofs.Changes.{ascends_put}
 use Rattle.closure.specs.Closure.{IsIn}
-use Rattle.closure.specs.Least.{IsClosed, IsLeastClosed}
 use Rattle.closure.proofs.Laws.{reached_is_least}
 use Rattle.closure.proofs.Members.{Found, any_is, any_of, in_filter, none_passes, of_filter}
 use Rattle.shop_defs.specs.declared.broken.Broken.{Broken}
@@ -20,19 +18,16 @@ use Rattle.shop_defs.specs.declared.op.OpKind.TheVariants.{Upsert, Delete}
 use Rattle.shop_defs.specs.declared.row.Row.{Row}
 use Rattle.shop_defs.specs.declared.table.Part.{Part}
 use Rattle.shop_defs.specs.declared.table.Part.TheVariants as P
-use Rattle.shop_defs.specs.declared.table.Reference.{Reference}
 use Rattle.shop_defs.specs.declared.table.TheConstants.{REFERENCES}
 use Rattle.shop_defs.specs.Rows.{row_key}
-use Rattle.shop_requests.specs.declared.raw.RawOp.{RawOp}
 use Rattle.shop_requests.specs.Operations.{reading}
 use Rattle.shop_operations.specs.Deletes.{stands_at, goes, gone, kept, in_use, is_field, is_emptied, emptied, deleted}
-use Rattle.shop_operations.specs.Operations.{place, by_kind, in_use_by, operated, removed, unless}
-use Rattle.shop_operations.specs.Outcomes.{TakesWhatIsGiven, elsewhere, UpsertLeaves, AreLost, NamesLost, LosesWhatIsLost, ArePaired, DeleteLeaves, Leaves}
+use Rattle.shop_operations.specs.Operations.{place, by_kind, in_use_by, operated, removed}
+use Rattle.shop_operations.specs.Outcomes.{TakesWhatIsGiven, elsewhere, UpsertLeaves, NamesLost, LosesWhatIsLost, ArePaired, DeleteLeaves, Leaves}
 use Rattle.shop_operations.specs.References.{falls_with, holds_back, sets_null, ties}
 use Rattle.shop_operations.specs.Upserts.{bare_row, left, place_cmp, row_in, with_row}
-use Rattle.shop_operations.specs.Views.{View}
 use Rattle.shop_operations.proofs.Fields.{rows_take_what_is_given}
-use Rattle.shop_soundness.specs.Batches.{batch, done, if_read, numbered}
+use Rattle.shop_soundness.specs.Batches.{batch, if_read, numbered}
 use Rattle.shop_soundness.specs.Outcomes.{OperationsLeave, BatchLeaves, BatchesLeave}
 use Rattle.shop_soundness.proofs.Accepted.{accepted, same_rows}
 use Rattle.shop_soundness.proofs.Lefts.{left_place}

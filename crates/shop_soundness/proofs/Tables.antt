@@ -1,8 +1,7 @@
 -- What the tables of references and limits keep, each computed over all lines.
-use Rattle.std.proofs.Common.{◌≡◌, ℕ, Bool, true, false, Option, Some, None, refl, sym, ap, ◌∙◌}
+use Rattle.std.proofs.Common.{◌≡◌, ℕ, Bool, true, false, Option, Some, None, refl}
 use Rattle.std.specs.Prelude.{◌&&◌, ◌||◌, ◌==◌, not, nat_le}
-use Rattle.std.specs.List.{find, list_all, list_any}
-use Rattle.std.specs.Option.{option_map}
+use Rattle.std.specs.List.{list_all, list_any}
 use Rattle.shop_defs.specs.declared.entity.Entity.{Entity}
 use Rattle.shop_defs.specs.declared.table.EntityInfo.{EntityInfo}
 use Rattle.shop_defs.specs.declared.table.KeyForm.{KeyForm}
@@ -10,8 +9,7 @@ use Rattle.shop_defs.specs.declared.table.KeyForm.TheVariants.{OnePart, TwoParts
 use Rattle.shop_defs.specs.declared.table.Part.{Part}
 use Rattle.shop_defs.specs.declared.table.Part.TheVariants as P
 use Rattle.shop_defs.specs.declared.table.Reference.{Reference}
-use Rattle.shop_defs.specs.declared.table.TheConstants.{ENTITIES, REFERENCES, LEVEL_LIMITS}
-use Rattle.shop_defs.specs.Entities.{entity_number}
+use Rattle.shop_defs.specs.declared.table.TheConstants.{REFERENCES, LEVEL_LIMITS}
 use Rattle.shop_defs.specs.Fitting.{is_writable}
 use Rattle.shop_defs.specs.Presets.{is_needed}
 use Rattle.shop_defs.specs.Tables.{fields_of, info_of}

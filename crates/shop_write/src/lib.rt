@@ -13,6 +13,9 @@
 //!   (`PlansBatch`, over `live_batch`): the changes make the live rows what the operations leave,
 //!   and leave the rows of drafts; their keys are live and ascend, and each row stands under its
 //!   key.
+//! - Both say in words what their changes leave (`PlanLeaves`, `BatchPlanLeaves`, over `Leaves` of
+//!   `shop_operations`), so a definition that ignores what is given, or empties what it needn't,
+//!   would be refused too.
 //! - `shop_core` calls `plan`; the other two are there for merges. That nothing walks over all rows
 //!   is how it is written; no clause speaks of it.
 #![tactic(auto)]
