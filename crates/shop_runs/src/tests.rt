@@ -10,6 +10,7 @@ use crate::tests::stores::{
     CUT_REPORTS, FAILED_WRITES, FAULTS, OPENED, REPORT, UNASKED, WORDS, WRITE_AND_READ,
 };
 use crate::tests::streams::STREAMS;
+use crate::tests::views::{GIVEN_AGAIN, is_given};
 use shop_defs::{Entity, Key, List, NoMemory};
 use shop_outside::{FixedClock, Kept, MemKeeper, MemSink, MemSource};
 use shop_server::run_shop;
@@ -22,6 +23,7 @@ mod messages;
 mod replies;
 mod stores;
 mod streams;
+mod views;
 
 /// A row as it is kept: the parts of its key, and its bytes.
 type Held = (Entity, u128, u128, u128, &'static [u8]);
@@ -316,6 +318,14 @@ fn replies_and_calls_to_come(rt: HostRuntime) -> Result<(), Fail> {
             is_well(is_reached(alloc, place, gone, emptied, *changes)),
             "of {}",
             place.1
+        );
+    }
+    for given in &GIVEN_AGAIN {
+        assert!(rt;
+            is_well(is_given(alloc, given)),
+            "{} of {}",
+            given.2,
+            given.0
         );
     }
     for (entity, presets) in [(Entity::Category, 2), (Entity::Cart, 3), (Entity::Tax, 0)] {

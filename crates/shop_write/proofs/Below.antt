@@ -90,12 +90,12 @@ pub record Climbs (rows : List Row) (row : Row) (at : Option Row) : Type 0 where
 module _ (view : View) (row : Row) (w : IsWrite view row) where
   pub climb_first : (at : Option Row) → at ≡ parent_row REFERENCES (with_row view.rows row) row → Climbs (with_row view.rows row) row at
   climb_first at e = record {
-    same = below_up (with_row view.rows row) (with_formed view row w) (with_in_order view.rows row w.coherent.in_order) row (put_has place_cmp row_key view.rows row) row (put_has place_cmp row_key view.rows row) ∙ ap (meets (with_row view.rows row) row) (sym e);
+    same = below_up (with_row view.rows row) (with_formed view row w) (with_in_order view.rows row w.in_order) row (put_has place_cmp row_key view.rows row) row (put_has place_cmp row_key view.rows row) ∙ ap (meets (with_row view.rows row) row) (sym e);
     found = λ x f. (parent_hit (with_row view.rows row) row x (sym e ∙ f)).is_in;
   }
 
   pub climb_more : (x : Row) (at : Option Row) → Climbs (with_row view.rows row) row (Some x) → stands_at row.key x ≡ false → at ≡ parent_row REFERENCES (with_row view.rows row) x → Climbs (with_row view.rows row) row at
   climb_more x at c n e = record {
-    same = c.same ∙ (ap (λ b. b || is_below REFERENCES (with_row view.rows row) row x) n ∙ (below_up (with_row view.rows row) (with_formed view row w) (with_in_order view.rows row w.coherent.in_order) row (put_has place_cmp row_key view.rows row) x (c.found x refl) ∙ ap (meets (with_row view.rows row) row) (sym e)));
+    same = c.same ∙ (ap (λ b. b || is_below REFERENCES (with_row view.rows row) row x) n ∙ (below_up (with_row view.rows row) (with_formed view row w) (with_in_order view.rows row w.in_order) row (put_has place_cmp row_key view.rows row) x (c.found x refl) ∙ ap (meets (with_row view.rows row) row) (sym e)));
     found = λ y f. (parent_hit (with_row view.rows row) x y (sym e ∙ f)).is_in;
   }

@@ -3,9 +3,7 @@ use Rattle.std.proofs.Common.{◌≡◌, Bool, true, false, List, [], ◌∷◌,
 use Rattle.std.specs.Prelude.{filter, map, is_some, unwrap_or}
 use Rattle.std.specs.Prelude.{slice_get}
 use Rattle.std.specs.List as L
-use Rattle.std.specs.Option.{option_and_then}
 use Rattle.std.specs.Cmp.{IsTotalOrder}
-use Rattle.std.specs.Ordering.{is_eq}
 use Rattle.std.proofs.lemmas.Cmp.{on_total, then_total, nat_cmp_total}
 use Rattle.std.proofs.lemmas.Bool.{false≢true}
 use Rattle.keyed.specs.Keyed.{find}
@@ -13,7 +11,6 @@ use Rattle.shop_defs.specs.declared.key.Key.{Key}
 use Rattle.shop_defs.specs.declared.row.Row.{Row}
 use Rattle.shop_defs.specs.Entities.{entity_number}
 use Rattle.shop_defs.specs.Rows.{row_key}
-use Rattle.shop_operations.specs.Deletes.{stands_at}
 use Rattle.shop_operations.specs.Upserts.{place_cmp, row_in}
 use Rattle.shop_operations.specs.Views.{IsInPlaceOrder}
 use Rattle.shop_write.proofs.InOrder.{guard, found_first, find_filter}

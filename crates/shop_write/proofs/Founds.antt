@@ -1,6 +1,6 @@
 -- The search for the rows that a delete touches, from its beginning to its end.
-use Rattle.std.proofs.Common.{◌≡◌, ℕ, true, false, ◌⊎◌, inl, inr, List, [], ◌∷◌, ◌++◌, refl, sym, ap, subst, ◌∙◌, Some}
-use Rattle.std.specs.Prelude.{map}
+use Rattle.std.proofs.Common.{◌≡◌, ℕ, true, false, ◌⊎◌, inl, inr, List, [], ◌∷◌, ◌++◌, refl, sym, ap, subst, ◌∙◌, Some, Result, Ok, Err}
+use Rattle.std.specs.Prelude.{map, IfOk}
 use Rattle.std.proofs.lemmas.Bool.{both_ways}
 use Rattle.closure.specs.Closure.{IsIn}
 use Rattle.closure.specs.Least.{IsClosed}
@@ -16,6 +16,7 @@ use Rattle.shop_operations.specs.Upserts.{row_in}
 use Rattle.shop_operations.specs.Views.{IsInPlaceOrder}
 use Rattle.shop_write.specs.declared.place.Place.{Place}
 use Rattle.shop_write.specs.declared.worklist.Search.{Search}
+use Rattle.shop_write.specs.declared.worklist.Affected.{Affected}
 use Rattle.shop_write.specs.Places.{row_place, key_at, is_at, stands_among}
 use Rattle.shop_write.specs.Searching.{falls_to, refers_to, Begins, IsNoted, AreOf, AreInOrder, IsSpread, IsFound, IsTouched}
 use Rattle.shop_write.proofs.Standing.{IsStanding, row_found, same_place, stands_itself, stands_too, same_row}
@@ -99,7 +100,7 @@ found_more table rows start version next rest before after popped f s all = reco
     onward row other i j g (inr h) = inr h
 
 -- where nothing waits, all that goes is found, and all that refers to it
-pub found_all : (table : List Reference) (rows : List Row) (start : Key) (search : Search) → IsInPlaceOrder rows → search.pending ≡ [] → IsFound table rows start search → IsTouched table rows start search
+pub found_all : (table : List Reference) (rows : List Row) (start : Key) (search : Search) → IsInPlaceOrder rows → search.pending ≡ [] → IsFound table rows start search → IsTouched table rows start (record { lost = search.lost; near = search.near })
 found_all table rows start search up done f = record {
   lost = places_are rows search.lost up f.in_order.rise f.in_order.of_rows ∙ ap (map row_place) (sym (filter_agree_on (goes table rows start) (stands_among search.lost) rows same));
   near = places_are rows search.near up f.in_order_near.rise f.in_order_near.of_rows;
@@ -124,3 +125,8 @@ found_all table rows start search up done f = record {
     settled row other i stays (inl (inl h)) = absurd (both_ways (goes table rows start row) stays (same row i ∙ h))
     settled row other i stays (inl (inr h)) = h.1
     settled row other i stays (inr h) = absurd (none_waits other h)
+
+-- what holds of what was found holds of the answer that is it
+pub touched_is : {E : Type 0} (table : List Reference) (rows : List Row) (start : Key) (found : Affected) (result : Result Affected E) → IfOk result (λ touched. touched ≡ found) → IsTouched table rows start found → IfOk result (IsTouched table rows start)
+touched_is table rows start found (Ok touched) e t = rw e t
+touched_is table rows start found (Err fault) e t = tt

@@ -1,18 +1,17 @@
 -- What is looked up in the live rows while a batch changes them.
-use Rattle.std.proofs.Common.{◌≡◌, ◌+◌, ℕ, Bool, true, false, List, [], ◌∷◌, length, refl, sym, ap, ◌∙◌, Option, Some, None, if◌then◌else◌, not, arith}
+use Rattle.std.proofs.Common.{◌≡◌, ◌+◌, Bool, true, false, List, [], ◌∷◌, length, refl, sym, ap, ◌∙◌, Option, Some, None, if◌then◌else◌, not, arith}
 use Rattle.std.specs.Prelude.{filter, map, count_by, is_some, is_none}
 use Rattle.std.specs.Option.{option_map}
 use Rattle.std.specs.List.{AllByRecursion, fold}
-use Rattle.std.specs.declared.cmp.Ordering.{Ordering}
-use Rattle.std.specs.declared.cmp.Ordering.TheVariants.{Less, Equal, Greater}
-use Rattle.std.specs.Ordering.{is_eq, match_ordering}
-use Rattle.std.proofs.lemmas.Bool.{true≢false, false≢true}
+use Rattle.std.specs.declared.cmp.Ordering.TheVariants.{Less}
+use Rattle.std.specs.Ordering.{is_eq}
+use Rattle.std.proofs.lemmas.Bool.{false≢true}
 use Rattle.std.proofs.lemmas.List.Sums.{length-filter}
 use Rattle.std.proofs.lemmas.List.Filters.{length-filter_both}
-use Rattle.keyed.specs.Keyed.{Ascends, find, put}
+use Rattle.keyed.specs.Keyed.{Ascends, put}
 use Rattle.shop_defs.specs.declared.key.Key.{Key}
 use Rattle.shop_defs.specs.declared.row.Row.{Row}
-use Rattle.shop_defs.specs.Joined.{Change, change_key, change_at, add_changes}
+use Rattle.shop_defs.specs.Joined.{Change, change_key, change_at}
 use Rattle.shop_defs.specs.Keys.{key_cmp}
 use Rattle.shop_defs.specs.Rows.{row_key, row_at, change_rows, IsInKeyOrder}
 use Rattle.shop_defs.proofs.Keys.{key_cmp_total}
@@ -22,8 +21,8 @@ use Rattle.shop_operations.specs.Views.{IsInPlaceOrder}
 use Rattle.shop_rows.specs.Changing.{row_after, StandsUnderItsKey, StandUnderTheirKeys, HasAscendingKeys}
 use Rattle.shop_rows.proofs.ChangedRows.{in_order-change_rows, row_at-change_rows, last_in-ascending}
 use Rattle.shop_write.specs.Growth.{AreLive, taken_out, put_in, changes_of, Growth, changes_so_far, grown, IsGrowth, is_kept, merged_keys, at_live, left_by}
-use Rattle.shop_write.proofs.InOrder.{guard, later, filter_all, weaken, found_key, find_as, find_filter, ascends_filter, same_from_find, ascends_puts, find_puts, filter_puts, length_puts, map_puts, map_filter, ascends_map, all_puts}
-use Rattle.shop_write.proofs.LivePlaces.{AllLive, all_live, row_in-live, live_in_order}
+use Rattle.shop_write.proofs.InOrder.{guard, later, found_key, find_as, find_filter, ascends_filter, same_from_find, ascends_puts, find_puts, filter_puts, length_puts, map_puts, map_filter, ascends_map, all_puts}
+use Rattle.shop_write.proofs.LivePlaces.{AllLive, row_in-live, live_in_order}
 
 -- of two tests, either may be tried first
 pub filter_swap : {X : Type 0} (p q : X → Bool) (xs : List X) → filter p (filter q xs) ≡ filter q (filter p xs)

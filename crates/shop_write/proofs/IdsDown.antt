@@ -14,17 +14,18 @@ use Rattle.shop_defs.specs.Rows.{row_key}
 use Rattle.shop_operations.specs.Deletes.{stands_at}
 use Rattle.shop_operations.specs.Parents.{parent_id, is_below, is_past, is_deep, children}
 use Rattle.shop_operations.specs.References.{is_entity, is_id}
-use Rattle.shop_operations.specs.Upserts.{place_cmp, with_row, sinks}
+use Rattle.shop_operations.specs.Upserts.{place_cmp, with_row, sinks, count_of}
 use Rattle.shop_operations.specs.Views.{View, IsInPlaceOrder}
 use Rattle.closure.specs.Closure.{IsIn}
 use Rattle.closure.proofs.Members.{in_filter, of_filter, in_map, of_map, Image}
 use Rattle.shop_write.specs.Writes.{IsWrite, limit_of}
 use Rattle.shop_write.specs.Steps.{IsDown, IsBetween, HasId, AreIdsOf, other_children, next_ids, lesser_id, least_id}
 use Rattle.shop_write.proofs.Heights.{old_row}
-use Rattle.shop_write.proofs.LevelTable.{limit_one_part, few_levels, deep_is, same_limit}
+use Rattle.shop_write.proofs.LevelTable.{limit_one_part, deep_is, same_limit}
 use Rattle.shop_write.proofs.OnePart.{single_with}
 use Rattle.shop_write.proofs.ParentWalks.{hit, child_names, child_from}
-use Rattle.shop_write.proofs.StepsDown.{down_entity, below_down, down_other, down_few, sinks_from, sinks_to, Sinks, above}
+use Rattle.shop_write.proofs.Ranks.{few_down, kin_few}
+use Rattle.shop_write.proofs.StepsDown.{down_entity, below_down, down_other, sinks_from, sinks_to, Sinks, above}
 use Rattle.shop_write.proofs.WrittenRows.{stands_itself, with_in_order, put_has, put_keeps, same_place, equal_place, all_in}
 
 -- ---- lists
@@ -300,10 +301,14 @@ module _ (view : View) (row : Row) (w : IsWrite view row) (free : is_below REFER
           one x (inl j) = j
           one x (inr j) = absurd (omega (arith, j.0, leb-false first steps e))
 
-  -- while there are rows so many steps below, there aren't more steps than levels
-  pub gathers_few : (first steps : ℕ) (level sinking : List ℕ) → Gathers (with_row view.rows row) row first steps level sinking → (level ≡ [] → ⊥) → steps ≤ most
-  gathers_few first steps [] sinking g n = absurd (n refl)
-  gathers_few first steps (id ∷ level) sinking g n = let h = g.level.real id (inl refl) in down_few view row w free most steps h.row limited h.is_in h.is_part
+  -- after more steps than there are rows of the entity there are none below
+  pub gathers_none : (first steps count : ℕ) (level sinking : List ℕ) → count ≡ count_of view.hidden view.rows row.key.entity → count + 3 ≤ steps → Gathers (with_row view.rows row) row first steps level sinking → level ≡ []
+  gathers_none first steps count [] sinking e l g = refl
+  gathers_none first steps count (id ∷ level) sinking e l g =
+      let h = g.level.real id (inl refl) in
+      let few = few_down view row w free steps h.row h.is_in h.is_part in
+      let kin = kin_few view row w in
+      absurd (omega (arith, e, l, few, kin))
 
   -- where there are none, all that sink are found
   pub gathers_all : (steps : ℕ) (sinking : List ℕ) → Gathers (with_row view.rows row) row (most - above view row w free most limited) steps [] sinking → AreIdsOf (with_row view.rows row) (λ x. sinks (with_row view.rows row) row x ≡ true) sinking
@@ -340,12 +345,9 @@ module _ (view : View) (row : Row) (w : IsWrite view row) (free : is_below REFER
   pub gathers_end : (n steps : ℕ) (level sinking : List ℕ) → n ≡ above view row w free most limited → level ≡ [] → Gathers (with_row view.rows row) row (most - n) steps level sinking → AreIdsOf (with_row view.rows row) (λ x. sinks (with_row view.rows row) row x ≡ true) sinking
   gathers_end n steps level sinking e f g = gathers_all steps sinking (subst (λ m. Gathers (with_row view.rows row) row (most - m) steps [] sinking) e (subst (λ ids. Gathers (with_row view.rows row) row (most - n) steps ids sinking) f g))
 
-  pub gathers_soon : (first steps : ℕ) (level sinking : List ℕ) → (level ≡ [] → ⊥) → Gathers (with_row view.rows row) row first steps level sinking → (steps ≤ most) × (most ≤ 32)
-  gathers_soon first steps level sinking n g = (gathers_few first steps level sinking g n, leb-true most 32 (sym (ap (λ (o : Option ℕ). option_map_or (λ n. nat_le n 32) o true) limited) ∙ few_levels row.key.entity))
-
   -- the least id is that of the first row that sinks
   pub least_sinking : (ids : List ℕ) → AreIdsOf (with_row view.rows row) (λ x. sinks (with_row view.rows row) row x ≡ true) ids → least_id ids ≡ option_map (λ (x : Row). x.key.id) (find (sinks (with_row view.rows row) row) (with_row view.rows row))
-  least_sinking ids a = least_found (sinks (with_row view.rows row) row) (with_row view.rows row) (entity_number row.key.entity) ids (with_in_order view.rows row w.coherent.in_order) (λ x i h. let s = sinks_to view row w free most limited x i h in down_entity view row w s.steps x s.down) a
+  least_sinking ids a = least_found (sinks (with_row view.rows row) row) (with_row view.rows row) (entity_number row.key.entity) ids (with_in_order view.rows row w.in_order) (λ x i h. let s = sinks_to view row w free most limited x i h in down_entity view row w s.steps x s.down) a
 
 -- where rows of the entity have no parents, none sinks
 pub none_sinks : (view : View) (row : Row) → IsWrite view row → limit_of row.key.entity ≡ None → None ≡ option_map (λ (x : Row). x.key.id) (find (sinks (with_row view.rows row) row) (with_row view.rows row))

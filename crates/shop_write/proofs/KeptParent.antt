@@ -1,6 +1,6 @@
 -- Where a written row has the parent that it had, no row comes to stand lower.
 use Rattle.std.proofs.Common.{◌≡◌, ℕ, zero, suc, Bool, true, false, ◌⊎◌, inl, inr, List, length, refl, sym, ap, subst, ◌∙◌, Option, Some, None}
-use Rattle.std.specs.Prelude.{◌==◌, ◌&&◌, not, find, nat_eq, nat_le, if◌then◌else◌}
+use Rattle.std.specs.Prelude.{◌&&◌, not, find, nat_eq, nat_le, if◌then◌else◌}
 use Rattle.std.specs.Option.{option_map, option_map_or, option_and_then}
 use Rattle.std.proofs.lemmas.Bool.{false≢true, both_ways, and_parts, not-true, eqb-true}
 use Rattle.closure.specs.Closure.{IsIn}
@@ -12,12 +12,12 @@ use Rattle.shop_defs.specs.declared.table.TheConstants.{REFERENCES, LEVEL_LIMITS
 use Rattle.shop_defs.specs.Entities.{entity_number}
 use Rattle.shop_defs.specs.Rows.{row_key}
 use Rattle.shop_operations.specs.Deletes.{stands_at}
-use Rattle.shop_operations.specs.Parents.{parent_id, parent_row, walk, is_below, is_past, is_deep}
+use Rattle.shop_operations.specs.Parents.{parent_id, parent_row, walk, is_past, is_deep}
 use Rattle.shop_operations.specs.References.{is_one}
 use Rattle.shop_operations.specs.Upserts.{place_cmp, with_row, row_in, sinks}
 use Rattle.shop_operations.specs.Views.{View}
 use Rattle.shop_write.specs.Steps.{is_same_id, keeps_parent}
-use Rattle.shop_write.specs.Writes.{IsWrite, has_one_part, limit_of, id_key}
+use Rattle.shop_write.specs.Writes.{IsWrite, are_shallow, has_one_part, limit_of, id_key}
 use Rattle.shop_write.proofs.IdsDown.{none_found}
 use Rattle.shop_write.proofs.LevelTable.{parent_one_part, deep_is, same_limit}
 use Rattle.shop_write.proofs.OnePart.{one_found, one_with}
@@ -48,14 +48,14 @@ same_ids (Some a) None h = absurd (false≢true h)
 row_in_place : (rows : List Row) (a b : Key) → SamePlace a b → row_in rows a ≡ row_in rows b
 row_in_place rows a b s = find_agree (stands_at a) (stands_at b) rows (λ row i. rw (s.entity, s.id, s.second) refl)
 
-module _ (view : View) (row : Row) (w : IsWrite view row) (before : Row) (found : row_in view.rows row.key ≡ Some before) (same : parent_id REFERENCES before ≡ parent_id REFERENCES row) where
+module _ (view : View) (row : Row) (w : IsWrite view row) (before : Row) (found : row_in view.rows row.key ≡ Some before) (same : parent_id REFERENCES before ≡ parent_id REFERENCES row) (shallow : are_shallow view.rows ≡ true) where
   alike : Alike row before
   alike = record { entity = (same_place row.key before (hit (stands_at row.key) view.rows before found).passes).entity; parent = sym same }
 
   alike_found : (entity : Entity) (id : ℕ) → has_one_part entity ≡ true → AreAlike (find (is_one entity id) (with_row view.rows row)) (find (is_one entity id) view.rows)
   alike_found entity id one =
       subst (λ (o : Option Row). AreAlike o (find (is_one entity id) view.rows)) (sym (one_with view row w entity id one ∙ row_in_with view.rows row (id_key entity id)))
-      (subst (λ (o : Option Row). AreAlike (if stands_at (id_key entity id) row then Some row else row_in view.rows (id_key entity id)) o) (sym (one_found view.rows w.coherent.formed entity one id))
+      (subst (λ (o : Option Row). AreAlike (if stands_at (id_key entity id) row then Some row else row_in view.rows (id_key entity id)) o) (sym (one_found view.rows w.keys_fit entity one id))
       (by (stands_at (id_key entity id) row) refl))
     where
       by : (b : Bool) → stands_at (id_key entity id) row ≡ b → AreAlike (if b then Some row else row_in view.rows (id_key entity id)) (row_in view.rows (id_key entity id))
@@ -90,7 +90,7 @@ module _ (view : View) (row : Row) (w : IsWrite view row) (before : Row) (found 
       by (Some n) = ap (nat_le n) (alike_walk n (parent_row REFERENCES (with_row view.rows row) a) (parent_row REFERENCES view.rows b) (alike_up a b l))
 
   old_shallow : (x : Row) → IsIn x view.rows → is_deep REFERENCES LEVEL_LIMITS view.rows x ≡ false
-  old_shallow x i = not-true _ (all_at (λ (r : Row). not (is_deep REFERENCES LEVEL_LIMITS view.rows r)) view.rows x w.coherent.shallow i)
+  old_shallow x i = not-true _ (all_at (λ (r : Row). not (is_deep REFERENCES LEVEL_LIMITS view.rows r)) view.rows x shallow i)
 
   none_deep : (x : Row) → (row ≡ x) ⊎ IsIn x view.rows → is_deep REFERENCES LEVEL_LIMITS (with_row view.rows row) x ≡ false
   none_deep x (inl e) = subst (λ (r : Row). is_deep REFERENCES LEVEL_LIMITS (with_row view.rows row) r ≡ false) e (alike_deep row before alike ∙ old_shallow before (hit (stands_at row.key) view.rows before found).is_in)
@@ -102,10 +102,10 @@ module _ (view : View) (row : Row) (w : IsWrite view row) (before : Row) (found 
       none : (x : Row) → IsIn x (with_row view.rows row) → sinks (with_row view.rows row) row x ≡ true → ⊥
       none x i h = both_ways _ (none_deep x (put_of place_cmp row_key view.rows row x i)) (and_parts _ (is_deep REFERENCES LEVEL_LIMITS (with_row view.rows row) x) h).1
 
--- where the parent is the one that the row had, none sinks
-pub kept_parent : (view : View) (row : Row) → IsWrite view row → keeps_parent view.rows row ≡ true → None ≡ option_map (λ (x : Row). x.key.id) (find (sinks (with_row view.rows row) row) (with_row view.rows row))
-kept_parent view row w h = by (row_in view.rows row.key) refl h
+-- where the parent is the one that the row had, and no row stood too low, none sinks
+pub kept_parent : (view : View) (row : Row) → IsWrite view row → are_shallow view.rows ≡ true → keeps_parent view.rows row ≡ true → None ≡ option_map (λ (x : Row). x.key.id) (find (sinks (with_row view.rows row) row) (with_row view.rows row))
+kept_parent view row w shallow h = by (row_in view.rows row.key) refl h
   where
     by : (o : Option Row) → row_in view.rows row.key ≡ o → option_map_or (λ (before : Row). is_same_id (parent_id REFERENCES before) (parent_id REFERENCES row)) o false ≡ true → None ≡ option_map (λ (x : Row). x.key.id) (find (sinks (with_row view.rows row) row) (with_row view.rows row))
     by None e k = absurd (false≢true k)
-    by (Some before) e k = none_sinks view row w before e (same_ids (parent_id REFERENCES before) (parent_id REFERENCES row) k)
+    by (Some before) e k = none_sinks view row w before e (same_ids (parent_id REFERENCES before) (parent_id REFERENCES row) k) shallow

@@ -7,6 +7,7 @@ pub mod ParentWalks
 pub mod Below
 pub mod Heights
 pub mod StepsDown
+pub mod Ranks
 pub mod IdsDown
 pub mod PlaceLists
 pub mod Standing
@@ -21,6 +22,7 @@ pub mod Touching
 pub mod Deletions
 pub mod Reaches
 pub mod RuleOrder
+pub mod Ground
 pub mod UpsertPlans
 pub mod KeptParent
 pub mod LivePlaces

@@ -1,16 +1,12 @@
 -- Live rows: the order of their places is that of their keys, and a look-up by place is one by key.
-use Rattle.std.proofs.Common.{◌≡◌, ◌<◌, ℕ, arith, Bool, true, false, List, [], ◌∷◌, refl, sym, ap, ◌∙◌, Option, Some, None, if◌then◌else◌, not}
-use Rattle.std.specs.Prelude.{◌==◌, ◌&&◌, filter, is_some, unwrap_or}
+use Rattle.std.proofs.Common.{◌≡◌, ◌<◌, ℕ, arith, Bool, true, false, List, [], ◌∷◌, refl, sym, ap, ◌∙◌, Option, Some, None}
+use Rattle.std.specs.Prelude.{◌==◌, ◌&&◌}
 use Rattle.std.specs.List.{AllByRecursion}
-use Rattle.std.specs.List as L
 use Rattle.std.specs.declared.cmp.Ordering.{Ordering}
 use Rattle.std.specs.declared.cmp.Ordering.TheVariants.{Less, Equal, Greater}
-use Rattle.std.specs.Cmp.{IsTotalOrder}
-use Rattle.std.specs.Ordering.{nat_cmp, ordering_then, is_eq, is_lt, MatchOrdering}
-use Rattle.std.proofs.lemmas.Cmp.{ranked, on_total, then_total, nat_cmp_total}
-use Rattle.std.proofs.lemmas.Bool.{true≢false, false≢true, eqb-true, eq-eqb, ne_eqb}
-use Rattle.keyed.specs.Keyed.{Ascends, find, put, without}
-use Rattle.keyed.proofs.Changes.{ascends_put, ascends_without, find_put, find_without}
+use Rattle.std.specs.Ordering.{nat_cmp, ordering_then, is_eq, MatchOrdering}
+use Rattle.std.proofs.lemmas.Cmp.{ranked}
+use Rattle.std.proofs.lemmas.Bool.{eqb-true, eq-eqb, ne_eqb}
 use Rattle.shop_defs.specs.declared.key.Key.{Key}
 use Rattle.shop_defs.specs.declared.row.Row.{Row}
 use Rattle.shop_defs.specs.Entities.{entity_number}
@@ -20,9 +16,9 @@ use Rattle.shop_defs.proofs.Keys.{key_cmp_total}
 use Rattle.shop_operations.specs.Deletes.{stands_at}
 use Rattle.shop_operations.specs.References.{is_live, live}
 use Rattle.shop_operations.specs.Upserts.{place_cmp, row_in}
-use Rattle.shop_operations.specs.Views.{IsInPlaceOrder, drafted}
+use Rattle.shop_operations.specs.Views.{IsInPlaceOrder}
 use Rattle.shop_write.specs.Growth.{at_live}
-use Rattle.shop_write.proofs.InOrder.{guard, all_pass, weaken, found_key, find_filter, ascends_filter, same_from_find, flip_equal}
+use Rattle.shop_write.proofs.InOrder.{guard, all_pass, weaken, found_key, find_filter, ascends_filter}
 
 -- each of the rows is live
 abbrev pub AllLive : List Row → Type 0

@@ -76,13 +76,13 @@ abbrev pub AreFormed : List Row → Type 0
 AreFormed rows = list_all (λ row. row_key_fits row.key) rows ≡ true
 
 pub with_formed : (view : View) (row : Row) → IsWrite view row → AreFormed (with_row view.rows row)
-with_formed view row w = all_put place_cmp row_key (λ (r : Row). row_key_fits r.key) view.rows row w.coherent.formed w.formed
+with_formed view row w = all_put place_cmp row_key (λ (r : Row). row_key_fits r.key) view.rows row w.keys_fit w.formed
 
 pub one_with : (view : View) (row : Row) → IsWrite view row → (of : Entity) (id : ℕ) → has_one_part of ≡ true → find (is_one of id) (with_row view.rows row) ≡ row_in (with_row view.rows row) (id_key of id)
 one_with view row w of id one = one_found (with_row view.rows row) (with_formed view row w) of one id
 
 pub single_with : (view : View) (row : Row) → IsWrite view row → (of : Entity) (id : ℕ) → has_one_part of ≡ true → IsSingle (is_one of id) (with_row view.rows row)
-single_with view row w of id one = one_single (with_row view.rows row) (with_formed view row w) of one id (with_in_order view.rows row w.coherent.in_order)
+single_with view row w of id one = one_single (with_row view.rows row) (with_formed view row w) of one id (with_in_order view.rows row w.in_order)
 
 -- ---- what a row names, by the row that is found
 

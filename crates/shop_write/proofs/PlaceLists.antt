@@ -4,7 +4,8 @@ use Rattle.std.specs.Prelude.{◌==◌, cond, is_some, is_ok, OnOk, OnErr, optio
 use Rattle.std.specs.declared.cmp.Ordering.{Ordering}
 use Rattle.std.specs.declared.cmp.Ordering.TheVariants.{Less, Equal, Greater}
 use Rattle.std.specs.Cmp.{IsTotalOrder, both_tied, unsigned_ties}
-use Rattle.std.specs.Ordering.{nat_cmp, ordering_then, ordering_reverse, ordering_index, is_eq, is_lt}
+use Rattle.std.specs.Ordering.{nat_cmp, ordering_then, ordering_reverse, ordering_index, match_ordering, is_eq, is_lt}
+use Rattle.std.specs.BTreeSet.{replace_key}
 use Rattle.std.specs.List.{list_any}
 use Rattle.std.specs.List.Sorted.{IsSearchInRange, IsBinarySearchResult, IsSortedBy, IsNonDecreasingBy}
 use Rattle.std.proofs.lemmas.List.Sorted.{searchable_from_sorted}
@@ -45,6 +46,34 @@ tied_at place row = order_tied place (row_place row) ∙ regrouped (entity_numbe
 pub rise_put : {A E : Type 0} (before after : List Place) (place : Place) (r : Result A E) → Rise before → OnOk r (after ≡ put order itself before place) → OnErr r (after ≡ before) → Rise after
 rise_put before after place (Ok x) up ok err = rw ok (ascends_put order itself order_total before place up)
 rise_put before after place (Err e) up ok err = rw err up
+
+-- to put a key into an ordered set is to put it into a list in order
+pub replaced_is : (places : List Place) (place : Place) → replace_key order places place ≡ put order itself places place
+replaced_is [] place = refl
+replaced_is (x ∷ xs) place = rw (order_total.antisymm x place) (by (replaced_is xs place) (order place x))
+  where
+    by : replace_key order xs place ≡ put order itself xs place → (o : Ordering) → match_ordering o (place ∷ x ∷ xs) (place ∷ xs) (x ∷ replace_key order xs place) ≡ match_ordering (ordering_reverse o) (x ∷ put order itself xs place) (place ∷ xs) (place ∷ x ∷ xs)
+    by e Less = refl
+    by e Equal = refl
+    by e Greater = ap (λ ys. x ∷ ys) e
+
+pub rise_replaced : {A E : Type 0} (before after : List Place) (place : Place) (r : Result A E) → Rise before → OnOk r (after ≡ replace_key order before place) → OnErr r (after ≡ before) → Rise after
+rise_replaced before after place (Ok x) up ok err = rw (ok, replaced_is before place) (ascends_put order itself order_total before place up)
+rise_replaced before after place (Err e) up ok err = rw err up
+
+-- a set has a row's place where the row stands at one of the places
+pub contained_is : (places : List Place) (row : Row) → list_any (λ place. is_eq (order (row_place row) place)) places ≡ stands_among places row
+unfolding stands_among
+contained_is [] row = refl
+contained_is (x ∷ xs) row = rw (turned, contained_is xs row) refl
+  where
+    flips : (o : Ordering) → is_eq (ordering_reverse o) ≡ is_eq o
+    flips Less = refl
+    flips Equal = refl
+    flips Greater = refl
+
+    turned : is_eq (order (row_place row) x) ≡ is_at row x
+    turned = ap is_eq (order_total.antisymm (row_place row) x) ∙ (flips (order x (row_place row)) ∙ tied_at x row)
 
 -- ---- look-ups
 

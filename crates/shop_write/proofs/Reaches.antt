@@ -20,7 +20,7 @@ use Rattle.shop_operations.specs.Upserts.{row_in}
 use Rattle.shop_operations.specs.Views.{View, IsInPlaceOrder}
 use Rattle.shop_write.specs.declared.effects.Reached.{Reached}
 use Rattle.shop_write.specs.declared.place.Place.{Place}
-use Rattle.shop_write.specs.declared.worklist.Search.{Search}
+use Rattle.shop_write.specs.declared.worklist.Affected.{Affected}
 use Rattle.shop_write.specs.Places.{row_place, key_at, stands_among}
 use Rattle.shop_write.specs.Searching.{IsTouched}
 use Rattle.shop_write.specs.Deleting.{loses, is_losing, is_losing_at}
@@ -41,11 +41,11 @@ filter_of_map {X} {Y} p g (x ∷ xs) = by (filter_of_map p g xs) (p (g x))
     by more false = more
 
 -- the keys at the places of the rows that go
-pub keys_gone_is : (table : List Reference) (view : View) (key : Key) (search : Search) → IsTouched table view.rows key search → map (key_at view.version) search.lost ≡ map (shown_key view) (gone table view.rows key)
+pub keys_gone_is : (table : List Reference) (view : View) (key : Key) (search : Affected) → IsTouched table view.rows key search → map (key_at view.version) search.lost ≡ map (shown_key view) (gone table view.rows key)
 keys_gone_is table view key search t = ap (map (key_at view.version)) t.lost ∙ map_map (key_at view.version) row_place (gone table view.rows key)
 
 -- the keys at the near places of rows that stay and lose a field
-pub keys_emptied_is : (table : List Reference) (view : View) (key : Key) (search : Search) → IsInPlaceOrder view.rows → IsTouched table view.rows key search → map (key_at view.version) (filter (is_losing_at table view.rows view.version search.lost) search.near) ≡ map (shown_key view) (losing table view.rows key)
+pub keys_emptied_is : (table : List Reference) (view : View) (key : Key) (search : Affected) → IsInPlaceOrder view.rows → IsTouched table view.rows key search → map (key_at view.version) (filter (is_losing_at table view.rows view.version search.lost) search.near) ≡ map (shown_key view) (losing table view.rows key)
 keys_emptied_is table view key search up t =
     ap (λ (places : List Place). map (key_at view.version) (filter (is_losing_at table view.rows view.version search.lost) places)) t.near
     ∙ (ap (map (key_at view.version)) (filter_of_map (is_losing_at table view.rows view.version search.lost) row_place (filter (stands_among search.near) view.rows))

@@ -19,7 +19,7 @@ use Rattle.closure.proofs.Members.{Found, any_of}
 use Rattle.shop_write.specs.Writes.{IsWrite, limit_of}
 use Rattle.shop_write.specs.Steps.{IsDown}
 use Rattle.shop_write.proofs.Below.{same_test}
-use Rattle.shop_write.proofs.Heights.{walk_ended, ends, old_row, old_parent}
+use Rattle.shop_write.proofs.Heights.{walk_ended}
 use Rattle.shop_write.proofs.LevelTable.{deep_is, same_limit}
 use Rattle.shop_write.proofs.OnePart.{AreFormed, with_formed}
 use Rattle.shop_write.proofs.ParentWalks.{child_up, child_entity}
@@ -53,7 +53,7 @@ module _ (view : View) (row : Row) (w : IsWrite view row) where
   formed = with_formed view row w
 
   ordered : IsInPlaceOrder (with_row view.rows row)
-  ordered = with_in_order view.rows row w.coherent.in_order
+  ordered = with_in_order view.rows row w.in_order
 
   pub down_entity : (k : ℕ) (x : Row) → IsDown (with_row view.rows row) row k x → entity_number row.key.entity ≡ entity_number x.key.entity
   down_entity zero x d = ap (λ (r : Row). entity_number r.key.entity) d
@@ -91,28 +91,6 @@ module _ (view : View) (row : Row) (w : IsWrite view row) where
         by false e = refl
         by true e = absurd (both_ways (is_below REFERENCES (with_row view.rows row) row row) free (subst (λ (r : Row). is_below REFERENCES (with_row view.rows row) row r ≡ true) (sym (places_apart (with_row view.rows row) ordered row x here i e)) (down_below k x i d)))
 
-    -- so many rows stand above it among the view's rows
-    pub down_old : (k : ℕ) (x : Row) → IsIn x (with_row view.rows row) → IsDown (with_row view.rows row) row (suc k) x → k ≤ length (walk REFERENCES view.rows k (parent_row REFERENCES view.rows x))
-    down_old zero x i d = omega arith
-    down_old (suc k) x i d =
-        let up = child_up (with_row view.rows row) formed ordered x d.parent d.is_in d.is_child in
-        let old = old_parent view row w x d.parent up (down_other k d.parent d.is_in d.is_above) in
-        let above : length (walk REFERENCES view.rows (suc k) (parent_row REFERENCES view.rows x)) ≡ suc (length (walk REFERENCES view.rows k (parent_row REFERENCES view.rows d.parent))) = ap (λ (at : Option Row). length (walk REFERENCES view.rows (suc k) at)) old.0 in
-        let l = down_old k d.parent d.is_in d.is_above in
-        omega (arith, above, l)
-
-    -- no row is more steps below than there are levels
-    pub down_few : (most k : ℕ) (x : Row) → limit_of row.key.entity ≡ Some most → IsIn x (with_row view.rows row) → IsDown (with_row view.rows row) row k x → k ≤ most
-    down_few most zero x e i d = omega arith
-    down_few most (suc k) x e i d =
-        let j = old_row view row w x i (down_other k x i d) in
-        let few = ends view row w x most j (sym (same_limit row.key.entity x.key.entity (down_entity (suc k) x d)) ∙ e) in
-        by few (down_old k x i d) (cases_lt k most)
-      where
-        by : length (walk REFERENCES view.rows most (parent_row REFERENCES view.rows x)) < most → k ≤ length (walk REFERENCES view.rows k (parent_row REFERENCES view.rows x)) → (k < most) ⊎ (most ≤ k) → suc k ≤ most
-        by few l (inr h) = let same = walk_ended REFERENCES view.rows most k (parent_row REFERENCES view.rows x) few h in absurd (omega (arith, few, l, h, same))
-        by few l (inl h) = omega (arith, h)
-
     -- a row so many steps below has as many more rows above it
     down_past : (n k : ℕ) (x : Row) → IsDown (with_row view.rows row) row k x → is_past REFERENCES (with_row view.rows row) (n + k) x ≡ is_past REFERENCES (with_row view.rows row) n row
     down_past n zero x d =
@@ -140,21 +118,32 @@ module _ (view : View) (row : Row) (w : IsWrite view row) where
           (ap (λ n. is_past REFERENCES (with_row view.rows row) n x) z ∙
           (down_past (most - k) k x d ∙ walk_reaches (with_row view.rows row) (most - k) most (parent_row REFERENCES (with_row view.rows row) row) less)))
 
+      down_far : (k : ℕ) (x : Row) → most ≤ k → IsDown (with_row view.rows row) row k x → is_deep REFERENCES LEVEL_LIMITS (with_row view.rows row) x ≡ true
+      down_far k x l d =
+          let same : limit_of x.key.entity ≡ Some most = sym (same_limit row.key.entity x.key.entity (down_entity k x d)) ∙ limited in
+          let far : nat_le (0 + k) (length (walk REFERENCES (with_row view.rows row) (0 + k) (parent_row REFERENCES (with_row view.rows row) x))) ≡ true = down_past 0 k x d in
+          let long = leb-true (0 + k) _ far in
+          deep_is (with_row view.rows row) x ∙
+          (ap (λ (o : Option ℕ). option_map_or (λ n. is_past REFERENCES (with_row view.rows row) n x) o false) same ∙
+          (walk_reaches (with_row view.rows row) most (0 + k) (parent_row REFERENCES (with_row view.rows row) x) (omega (arith, l)) ∙
+          le-leb most _ (omega (arith, l, long))))
+
       -- a row sinks where it is so many steps below, at least as many as there is room for
       pub sinks_from : (k : ℕ) (x : Row) → IsIn x (with_row view.rows row) → IsDown (with_row view.rows row) row k x → most - above ≤ k → sinks (with_row view.rows row) row x ≡ true
-      sinks_from k x i d l =
-          let few = down_few most k x limited i d in
-          and_from _ _ (at k d) (down_deep k x few d ∙ le-leb (most - k) _ (omega (arith, l, few)))
+      sinks_from k x i d l = and_from _ _ (at k d) (by (cases_lt k most))
         where
           at : (n : ℕ) → IsDown (with_row view.rows row) row n x → (stands_at row.key x || is_below REFERENCES (with_row view.rows row) row x) ≡ true
           at zero e = or_left _ _ (subst (λ (r : Row). stands_at row.key r ≡ true) e (stands_itself row))
           at (suc n) e = or_right (stands_at row.key x) _ (down_below n x i e)
 
+          by : (k < most) ⊎ (most ≤ k) → is_deep REFERENCES LEVEL_LIMITS (with_row view.rows row) x ≡ true
+          by (inl few) = down_deep k x (omega (arith, few)) d ∙ le-leb (most - k) _ (omega (arith, l, few))
+          by (inr far) = down_far k x far d
+
       pub record Sinks (x : Row) : Type 0 where
         pub steps : ℕ
         pub down : IsDown (with_row view.rows row) row steps x
         pub from : most - above ≤ steps
-        pub within : steps ≤ most
 
       pub sinks_to : (x : Row) → IsIn x (with_row view.rows row) → sinks (with_row view.rows row) row x ≡ true → Sinks x
       sinks_to x i h = by (or_cases (stands_at row.key x) _ both.0)
@@ -162,11 +151,12 @@ module _ (view : View) (row : Row) (w : IsWrite view row) where
           both : ((stands_at row.key x || is_below REFERENCES (with_row view.rows row) row x) ≡ true) × (is_deep REFERENCES LEVEL_LIMITS (with_row view.rows row) x ≡ true)
           both = and_parts (stands_at row.key x || is_below REFERENCES (with_row view.rows row) row x) _ h
 
+          room : (k : ℕ) → IsDown (with_row view.rows row) row k x → (k < most) ⊎ (most ≤ k) → most - above ≤ k
+          room k d (inl few) = let low = leb-true (most - k) _ (sym (down_deep k x (omega (arith, few)) d) ∙ both.1) in omega (arith, low, few)
+          room k d (inr far) = omega (arith, far)
+
           at : (k : ℕ) → IsDown (with_row view.rows row) row k x → Sinks x
-          at k d =
-              let few = down_few most k x limited i d in
-              let low = leb-true (most - k) _ (sym (down_deep k x few d) ∙ both.1) in
-              record { steps = k; down = d; from = omega (arith, low, few); within = few }
+          at k d = record { steps = k; down = d; from = room k d (cases_lt k most) }
 
           by : (stands_at row.key x ≡ true) ⊎ (is_below REFERENCES (with_row view.rows row) row x ≡ true) → Sinks x
           by (inl e) = at zero (places_apart (with_row view.rows row) ordered row x here i e)

@@ -1,5 +1,5 @@
 -- What the live rows are after a batch takes changes in, and what it changed in all.
-use Rattle.std.proofs.Common.{◌≡◌, ◌<◌, ◌+◌, ◌++◌, ℕ, length, take, get_or, subst, Bool, true, false, List, [], ◌∷◌, refl, sym, ap, ◌∙◌, Option, Some, None, if◌then◌else◌}
+use Rattle.std.proofs.Common.{◌≡◌, ◌<◌, ◌+◌, ◌++◌, ℕ, length, take, get_or, subst, List, [], ◌∷◌, refl, sym, ap, ◌∙◌, Option, Some, None, if◌then◌else◌}
 use Rattle.std.specs.Prelude.{is_some, unwrap_or, map}
 use Rattle.std.specs.Option.{option_map, option_and_then, option_to_list}
 use Rattle.std.proofs.lemmas.List.{take_more}
@@ -7,7 +7,7 @@ use Rattle.std.proofs.lemmas.List.Elements.{filter_map-append}
 use Rattle.std.specs.List.{AllByRecursion, cons_option}
 use Rattle.std.specs.declared.cmp.Ordering.{Ordering}
 use Rattle.std.specs.declared.cmp.Ordering.TheVariants.{Less, Equal, Greater}
-use Rattle.std.specs.Ordering.{is_eq, ordering_reverse}
+use Rattle.std.specs.Ordering.{ordering_reverse}
 use Rattle.std.proofs.lemmas.Bool.{false≢true}
 use Rattle.shop_defs.specs.declared.key.Key.{Key}
 use Rattle.shop_defs.specs.declared.row.Row.{Row}
@@ -20,7 +20,7 @@ use Rattle.shop_operations.specs.Views.{change_places, drafted}
 use Rattle.shop_rows.specs.Changing.{row_after, StandsUnderItsKey, StandUnderTheirKeys, HasAscendingKeys}
 use Rattle.shop_rows.proofs.ChangedRows.{in_order-change_rows, row_at-change_rows, last_in-ascending}
 use Rattle.shop_write.specs.Growth.{AreLive, put_in, Growth, changes_so_far, changes_of, grown, IsGrowth, losses, left_by, taken_out, change_by, joined_keys}
-use Rattle.shop_write.proofs.InOrder.{found_key, find_as, flip_equal, same_from_find, later, map_puts, all_found}
+use Rattle.shop_write.proofs.InOrder.{found_key, find_as, same_from_find, later, map_puts, all_found}
 use Rattle.shop_write.proofs.LivePlaces.{AllLive, all_live, same_version}
 use Rattle.shop_write.proofs.LiveChanges.{live-change_rows, live-change_rows_by_key, drafted-change_rows}
 use Rattle.shop_write.proofs.Growths.{row_at-changes, changes_ascend, changes_stand, changes_live, change_at-changes}

@@ -19,7 +19,7 @@ use Rattle.shop_operations.specs.Operations.{unless, in_use_by}
 use Rattle.shop_operations.specs.Views.{View, IsInPlaceOrder, change_places}
 use Rattle.shop_rows.specs.Changing.{HasAscendingKeys}
 use Rattle.shop_write.specs.declared.place.Place.{Place}
-use Rattle.shop_write.specs.declared.worklist.Search.{Search}
+use Rattle.shop_write.specs.declared.worklist.Affected.{Affected}
 use Rattle.shop_write.specs.Places.{row_place, key_at, stands_among}
 use Rattle.shop_write.specs.Searching.{IsTouched}
 use Rattle.shop_write.specs.Deleting.{holds_lost, loses, rest_of, or_first, first_of, holder, holder_at, AreChangesOf, IsCovered, Reaches, removal}
@@ -72,7 +72,7 @@ same_tests false true f g = g refl
 
 -- ---- a search that has ended
 
-module _ (table : List Reference) (rows : List Row) (key : Key) (search : Search) (up : IsInPlaceOrder rows) (t : IsTouched table rows key search) where
+module _ (table : List Reference) (rows : List Row) (key : Key) (search : Affected) (up : IsInPlaceOrder rows) (t : IsTouched table rows key search) where
   is_lost : (row : Row) → IsIn row rows → stands_among search.lost row ≡ goes table rows key row
   is_lost row i = ap (λ (places : List Place). stands_among places row) t.lost ∙ among_is table rows key up row i
 
@@ -149,7 +149,7 @@ module _ (table : List Reference) (rows : List Row) (key : Key) (search : Search
           and_from (stands_among search.near row) _ (loses_near row i (not-true _ parts.0) parts.1) h)
 
 -- the changes of a delete lead to the rows that it leaves
-pub reaches : (table : List Reference) (view : View) (key : Key) (search : Search) → IsInPlaceOrder view.rows → IsTouched table view.rows key search → (changes : List Change) → HasAscendingKeys changes → AreChangesOf (rest_of table search.lost) view.rows changes → ((row : Row) → IsIn row view.rows → stands_among search.lost row ≡ true → IsCovered (rest_of table search.lost) changes row) → ((row : Row) → IsIn row view.rows → stands_among search.near row ≡ true → IsCovered (rest_of table search.lost) changes row) → Reaches view (Ok (deleted table view.rows key)) changes
+pub reaches : (table : List Reference) (view : View) (key : Key) (search : Affected) → IsInPlaceOrder view.rows → IsTouched table view.rows key search → (changes : List Change) → HasAscendingKeys changes → AreChangesOf (rest_of table search.lost) view.rows changes → ((row : Row) → IsIn row view.rows → stands_among search.lost row ≡ true → IsCovered (rest_of table search.lost) changes row) → ((row : Row) → IsIn row view.rows → stands_among search.near row ≡ true → IsCovered (rest_of table search.lost) changes row) → Reaches view (Ok (deleted table view.rows key)) changes
 reaches table view key search up t changes ascends of lost near = record {
   rows = ap Ok (sym (leads table view.rows key search up t changes of (all_covered table view.rows key search up t changes lost near)));
   ascends = ascends;

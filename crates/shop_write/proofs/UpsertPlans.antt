@@ -15,11 +15,10 @@ use Rattle.shop_defs.specs.Joined.{Change}
 use Rattle.shop_defs.specs.Rows.{row_key}
 use Rattle.shop_operations.specs.Deletes.{stands_at}
 use Rattle.shop_operations.specs.Operations.{place, broken_by, by_kind, unless, operated}
-use Rattle.shop_operations.specs.Soundness.{IsCoherent}
 use Rattle.shop_operations.specs.Upserts.{row_in, with_row, bare_row, given_to, left}
-use Rattle.shop_operations.specs.Views.{View}
+use Rattle.shop_operations.specs.Views.{View, IsInPlaceOrder}
 use Rattle.shop_write.specs.Planning.{IsOfView, IsPlan, IsPlanFault}
-use Rattle.shop_write.specs.Writes.{IsWrite}
+use Rattle.shop_write.specs.Writes.{TakesUpsert, IsWrite}
 use Rattle.shop_write.proofs.ParentWalks.{hit}
 
 module _ (view : View) (op : Op) (before : Option Row) (found : before ≡ row_in view.rows (place view op)) (row : Row) (leaves : row ≡ given_to (unwrap_or before (bare_row (place view op))) op) where
@@ -31,12 +30,12 @@ module _ (view : View) (op : Op) (before : Option Row) (found : before ≡ row_i
   key_is = ap (λ (r : Row). r.key) leaves
 
   -- the written row's key is of its entity's form
-  pub is_write : IsCoherent view → op_fits op ≡ true → IsWrite view row
-  is_write coherent fits = record { coherent = coherent; formed = ap row_key_fits key_is ∙ by before found }
+  pub is_write : IsInPlaceOrder view.rows → TakesUpsert view op → op_fits op ≡ true → IsWrite view row
+  is_write up takes fits = record { in_order = up; keys_fit = takes.formed; formed = ap row_key_fits key_is ∙ by before found }
     where
       by : (o : Option Row) → o ≡ row_in view.rows (place view op) → row_key_fits (unwrap_or o (bare_row (place view op))).key ≡ true
       by None e = (and_parts (parts_fit op.entity op.id op.second) (list_all (given_fits op.entity) op.fields) fits).0
-      by (Some old) e = all_at (λ (r : Row). row_key_fits r.key) view.rows old coherent.formed (hit (stands_at (place view op)) view.rows old (sym e)).is_in
+      by (Some old) e = all_at (λ (r : Row). row_key_fits r.key) view.rows old takes.formed (hit (stands_at (place view op)) view.rows old (sym e)).is_in
 
   of_view : IsOfView view row.key
   of_view = subst (IsOfView view) (sym key_is) (by before found)

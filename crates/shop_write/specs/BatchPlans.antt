@@ -11,10 +11,9 @@ use Rattle.shop_defs.specs.Rows.{change_rows}
 use Rattle.shop_soundness.specs.Batches.{done, live_batch}
 use Rattle.shop_soundness.specs.Outcomes.{BatchLeaves}
 use Rattle.shop_operations.specs.References.{live}
-use Rattle.shop_operations.specs.Views.{View, drafted, live_view, change_places}
+use Rattle.shop_operations.specs.Views.{View, drafted, live_view}
 use Rattle.shop_rows.specs.Changing.{StandUnderTheirKeys, HasAscendingKeys}
 use Rattle.shop_write.specs.Growth.{AreLive}
-use Rattle.shop_write.specs.Planning.{IsOfView}
 
 -- each operation has an id
 abbrev pub HaveIds : List RawOp → Type 0
@@ -46,21 +45,10 @@ BatchPlanLeaves rows ops (Err fault) = Unit {0}
 
 -- ---- one operation of it
 
--- the changes are those of an operation that is read and then done
-pub record IsDonePlan (view : View) (op : RawOp) (changes : List Change) : Type 0 where
-  pub rows : done view op ≡ Ok (change_places view.rows changes)
-  pub ascends : HasAscendingKeys changes
-  pub stand : StandUnderTheirKeys changes
-  pub keys : AllByRecursion (λ change. IsOfView view change.0) changes
-
--- the fault is want of memory, or names the rule that the operation breaks, with that number
+-- the fault is want of memory, or names the rule that the operation breaks
 abbrev pub IsDoneFault : View → RawOp → PlanFault → Type 0
 IsDoneFault view op F.NoMemory = Unit {0}
 IsDoneFault view op (F.Refused refused) = done view op ≡ Err refused.broken
-
-abbrev pub PlansDone : View → RawOp → Result Delta PlanFault → Type 0
-PlansDone view op (Ok delta) = IsDonePlan view op delta.changes
-PlansDone view op (Err fault) = IsDoneFault view op fault
 
 -- the fault is want of memory, or names the rule that the operation breaks, with its number
 abbrev pub IsNumberedFault : View → ℕ → RawOp → PlanFault → Type 0

@@ -10,6 +10,7 @@ use Rattle.shop_operations.specs.References.{falls_at, refers_at}
 use Rattle.shop_operations.specs.Deletes.{stands_at, goes, gone}
 use Rattle.shop_write.specs.declared.place.Place.{Place}
 use Rattle.shop_write.specs.declared.worklist.Search.{Search}
+use Rattle.shop_write.specs.declared.worklist.Affected.{Affected}
 use Rattle.shop_write.specs.Places.{order, itself, Rise, row_place, stands_among}
 
 -- the row goes with what stands at the key
@@ -74,7 +75,7 @@ pub record IsFound (table : List Reference) (rows : List Row) (start : Key) (sea
   pub of_rows : AreOf rows search.pending
 
 -- the rows that go with a delete at the key, and rows that refer to one of them: all of those that stay
-pub record IsTouched (table : List Reference) (rows : List Row) (key : Key) (search : Search) : Type 0 where
+pub record IsTouched (table : List Reference) (rows : List Row) (key : Key) (search : Affected) : Type 0 where
   pub lost : search.lost ≡ map row_place (gone table rows key)
   pub near : search.near ≡ map row_place (filter (stands_among search.near) rows)
   pub covers : (row other : Row) → IsIn row rows → IsIn other rows → goes table rows key row ≡ false → goes table rows key other ≡ true → refers_to table other.key row ≡ true → stands_among search.near row ≡ true

@@ -1,24 +1,37 @@
--- A row that is written to the rows of a view.
-use Rattle.std.specs.Prelude.{◌≡◌, ℕ, Bool, true, false, List, Option, Some, None, find}
+-- A row that is written to the rows of a view, and what that asks of them.
+use Rattle.std.specs.Prelude.{◌≡◌, ℕ, Bool, true, false, not, List, Option, Some, None, find}
 use Rattle.std.specs.List.{list_all}
 use Rattle.std.specs.Option.{option_map}
 use Rattle.shop_defs.specs.declared.entity.Entity.{Entity}
 use Rattle.shop_defs.specs.declared.key.Key.{Key}
+use Rattle.shop_defs.specs.declared.op.Op.{Op}
 use Rattle.shop_defs.specs.declared.row.Row.{Row}
 use Rattle.shop_defs.specs.declared.table.EntityInfo.{EntityInfo}
 use Rattle.shop_defs.specs.declared.table.KeyForm.{KeyForm}
 use Rattle.shop_defs.specs.declared.table.KeyForm.TheVariants.{OnePart, TwoParts}
 use Rattle.shop_defs.specs.declared.table.Reference.{Reference}
-use Rattle.shop_defs.specs.declared.table.TheConstants.{LEVEL_LIMITS}
+use Rattle.shop_defs.specs.declared.table.TheConstants.{REFERENCES, LEVEL_LIMITS}
 use Rattle.shop_defs.specs.Fitting.{row_key_fits}
 use Rattle.shop_defs.specs.Tables.{info_of}
 use Rattle.shop_operations.specs.References.{is_entity}
-use Rattle.shop_operations.specs.Soundness.{IsCoherent}
-use Rattle.shop_operations.specs.Views.{View}
+use Rattle.shop_operations.specs.Parents.{is_deep}
+use Rattle.shop_operations.specs.Upserts.{gives_parent}
+use Rattle.shop_operations.specs.Views.{View, IsInPlaceOrder}
 
--- the view's rows fit one another, and the key of the row that is written is of its entity's form
+-- none of the rows stands lower than it may
+abbrev pub are_shallow : List Row → Bool
+are_shallow rows = list_all (λ row. not (is_deep REFERENCES LEVEL_LIMITS rows row)) rows
+
+-- what an upsert asks of a view: keys are of their entities' forms; and where it gives a parent to a live row, no live row stands
+-- lower than it may. Of the rows that a draft shows nothing more is asked, since live rows move on under the draft's own
+pub record TakesUpsert (view : View) (op : Op) : Type 0 where
+  pub formed : list_all (λ row. row_key_fits row.key) view.rows ≡ true
+  pub shallow : gives_parent op ≡ true → view.version ≡ 0 → are_shallow view.rows ≡ true
+
+-- the view's rows stand in order, and their keys and that of the row that is written are of their entities' forms
 pub record IsWrite (view : View) (row : Row) : Type 0 where
-  pub coherent : IsCoherent view
+  pub in_order : IsInPlaceOrder view.rows
+  pub keys_fit : list_all (λ row. row_key_fits row.key) view.rows ≡ true
   pub formed : row_key_fits row.key ≡ true
 
 abbrev pub is_one_part : KeyForm → Bool

@@ -4,12 +4,10 @@ ghost use Rattle.shop_defs.specs.declared.refused.PlanFault.TheVariants as F;
 ghost use Rattle.shop_soundness.specs.Batches.{done};
 ghost use Rattle.shop_operations.specs.Soundness.{IsCoherent};
 ghost use Rattle.shop_operations.specs.Views.{live_view};
-ghost use Rattle.shop_write.specs.BatchPlans.{BatchPlanLeaves, HaveIds, PlansBatch, PlansDone, IsNumberedFault};
+ghost use Rattle.shop_write.specs.BatchPlans.{BatchPlanLeaves, HaveIds, PlansBatch, IsDoneFault, IsNumberedFault};
 ghost use Rattle.shop_write.specs.Growth.{grown, grown_view};
 
 use crate::growing::Growing;
-use crate::operation::plan_op;
-use crate::view::View;
 use shop_defs::{Delta, List, PlanFault, Refused};
 use shop_requests::{RawOp, read_op};
 use shop_rows::Rows;
@@ -46,11 +44,8 @@ fn step(alloc: Global, growing: &mut Growing<'_>, number: u32, op: &RawOp) -> Re
     ensures base { growing.new.base ≡ growing.old.base }
     ensures err { IfErr result (IsNumberedFault (grown_view growing.old) number op.now) }
 {
-    match plan_done(alloc, growing, op) {
-        Ok(delta) => match growing.take_in(alloc, delta) {
-            Ok(()) => Ok(()),
-            Err(_) => Err(PlanFault::NoMemory),
-        },
+    match do_raw(alloc, growing, op) {
+        Ok(()) => Ok(()),
         Err(PlanFault::Refused(refused)) => Err(numbered(number, refused)),
         Err(PlanFault::NoMemory) => Err(PlanFault::NoMemory),
     }
@@ -66,14 +61,16 @@ fn numbered(number: u32, refused: Refused) -> PlanFault
     })
 }
 
-/// What an operation changes, once it is read.
-fn plan_done<V: View>(alloc: Global, view: &V, op: &RawOp) -> Result<Delta, PlanFault>
+/// Does an operation, once it is read.
+fn do_raw(alloc: Global, growing: &mut Growing<'_>, op: &RawOp) -> Result<(), PlanFault>
     requires id { op.now.id ≢ 0 }
-    requires coherent { IsCoherent (V.seen view.now) }
-    ensures { PlansDone (V.seen view.now) op.now result }
+    requires coherent { IsCoherent (grown_view growing.old) }
+    ensures ok { OnOk result (done (grown_view growing.old) op.now ≡ Ok (grown growing.new)) }
+    ensures base { growing.new.base ≡ growing.old.base }
+    ensures err { IfErr result (IsDoneFault (grown_view growing.old) op.now) }
 {
     match read_op(alloc, op) {
-        Ok(read) => plan_op(alloc, view, &read, false),
+        Ok(read) => growing.operate(alloc, &read, false),
         Err(fault) => Err(fault),
     }
 }

@@ -22,16 +22,22 @@ pub(crate) fn parent_of<'a, V: View>(view: &'a V, row: &'a Row, of: &Row) -> Opt
     }
 }
 
-/// Whether the way up from the written row comes back to it.
+/// Whether the way up from the written row comes back to it. A way up that comes back to no row at all, or
+/// to another, ends, or is given up after as many steps as there are rows of the entity.
 pub(crate) fn is_below_itself<V: View>(view: &V, row: &Row) -> bool
     requires { IsWrite (V.seen view.now) row.now }
     ensures { result ≡ spec.is_below REFERENCES (with_row (V.seen view.now).rows row.now) row.now row.now }
 {
+    let mut left = view.count(row.key.entity) as u128 + 1;
     let mut at = parent_of(view, row, row);
     while let Some(above) = at {
         if stands_at(&row.key, above) {
             return true;
         }
+        if left == 0 {
+            return false;
+        }
+        left -= 1;
         at = parent_of(view, row, above);
     }
     false

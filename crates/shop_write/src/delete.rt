@@ -17,7 +17,7 @@ ghost use Rattle.shop_write.specs.Deleting as spec;
 use crate::operation::{place_of, refused};
 use crate::place::{Place, Places};
 use crate::view::View;
-use crate::worklist::{Search, touched};
+use crate::worklist::{Affected, touched};
 use ordered::Ordered;
 use shop_defs::{
     Broken, Copied, Delta, Key, List, NoMemory, OnDelete, Op, OpKind, Part, PlanFault, REFERENCES,
@@ -225,7 +225,7 @@ fn holder_at<V: View>(view: &V, place: Place, lost: &Places) -> Option<Key>
 }
 
 /// The key of the first row that stays and holds back one that goes: such a row is near.
-fn first_holder<V: View>(view: &V, search: &Search) -> Option<Key>
+fn first_holder<V: View>(view: &V, search: &Affected) -> Option<Key>
     ensures { result ≡ spec.first_of (spec.holder_at REFERENCES (V.seen view.now).rows (V.seen view.now).version search.now.lost) search.now.near }
 {
     let mut rest = search.near.as_slice();
@@ -239,7 +239,7 @@ fn first_holder<V: View>(view: &V, search: &Search) -> Option<Key>
 }
 
 /// The changes of a delete: the rows that go are taken away, and near rows that stay lose fields.
-fn changes_of<V: View>(alloc: Global, view: &V, search: &Search) -> Result<Delta, NoMemory>
+fn changes_of<V: View>(alloc: Global, view: &V, search: &Affected) -> Result<Delta, NoMemory>
     requires { IsInPlaceOrder (V.seen view.now).rows }
     ensures { IfOk result (λ delta. (key : Key) → IsTouched REFERENCES (V.seen view.now).rows key search.now → spec.Reaches (V.seen view.now) (Ok (deleted REFERENCES (V.seen view.now).rows key)) delta.changes) }
 {

@@ -1,12 +1,12 @@
 //! How deep a written row and those below it stand.
-ghost use Rattle.std.specs.Prelude.{◌≡◌, ◌==◌, ◌++◌, ◌≤◌, false, true, not, filter, find, length, Some, OnOk, IfOk, if◌then◌else◌};
+ghost use Rattle.std.specs.Prelude.{◌≡◌, ◌==◌, ◌&&◌, ◌++◌, ◌≤◌, false, true, not, filter, find, length, Some, OnOk, IfOk, if◌then◌else◌};
 ghost use Rattle.std.specs.Option.{option_copied, option_map};
 ghost use Rattle.shop_defs.specs.declared.table.TheConstants.{REFERENCES};
 ghost use Rattle.shop_operations.specs.Parents as spec;
 ghost use Rattle.shop_operations.specs.References.{is_entity};
 ghost use Rattle.shop_operations.specs.Upserts.{with_row, sinks};
 ghost use Rattle.shop_write.specs.Steps.{AreIdsOf, other_children, next_ids, least_id, lesser_id, keeps_parent, is_same_id};
-ghost use Rattle.shop_write.specs.Writes.{IsWrite, limit_of};
+ghost use Rattle.shop_write.specs.Writes.{IsWrite, are_shallow, limit_of};
 
 use crate::cycle::parent_of;
 use crate::view::View;
@@ -46,18 +46,27 @@ pub(crate) fn too_deep<V: View>(
     row: &Row,
 ) -> Result<Option<u128>, NoMemory>
     requires write { IsWrite (V.seen view.now) row.now }
+    requires live { (V.seen view.now).version ≡ 0 → are_shallow (V.seen view.now).rows ≡ true }
     requires free { spec.is_below REFERENCES (with_row (V.seen view.now).rows row.now) row.now row.now ≡ false }
     ensures { let rows = with_row (V.seen view.now).rows row.now in IfOk result (λ id. id ≡ option_map (λ other. other.key.id) (find (sinks rows row.now) rows)) }
 {
     match level_limit(row.key.entity) {
         None => Ok(None),
-        Some(_) if keeps_parent(view, row) => Ok(None),
+        Some(_) if is_live_and_kept(view, row) => Ok(None),
         Some(most) => least_too_deep(alloc, view, row, most),
     }
 }
 
-/// Whether the row that stands at the written one's place before has the same parent. Then no row
-/// comes to stand lower than before, and none is to be looked at.
+/// Whether a live row is written that has the parent that it had: then no row comes to stand lower than
+/// before, and none is to be looked at. A draft's own row may stand under a parent that has sunk since it
+/// was given.
+fn is_live_and_kept<V: View>(view: &V, row: &Row) -> bool
+    ensures { result ≡ (((V.seen view.now).version == 0) && keeps_parent (V.seen view.now).rows row.now) }
+{
+    view.version() == 0 && keeps_parent(view, row)
+}
+
+/// Whether the row that stands at the written one's place before has the same parent.
 fn keeps_parent<V: View>(view: &V, row: &Row) -> bool
     ensures { result ≡ keeps_parent (V.seen view.now).rows row.now }
 {
@@ -92,7 +101,8 @@ fn least_too_deep<V: View>(
     Ok(least_of(ids.as_slice()))
 }
 
-/// The ids of the rows, of the written one and those below it, that stand too low: level by level.
+/// The ids of the rows, of the written one and those below it, that stand too low: level by level, each
+/// row once. There are no more levels than rows of the entity.
 fn sinking_ids<V: View>(
     alloc: Global,
     view: &V,
@@ -105,12 +115,13 @@ fn sinking_ids<V: View>(
     ensures { let rows = with_row (V.seen view.now).rows row.now in IfOk result (AreIdsOf rows (λ other. sinks rows row.now other ≡ true)) }
 {
     let room = most - rows_above(view, row, most);
+    let end = view.count(row.key.entity) as u128 + 3;
     let mut level = List::new(alloc);
     level.push(row.key.id)?;
     let mut sinking = List::new(alloc);
     let mut steps = 0;
-    'levels: while !level.is_empty() {
-        add_low(&mut sinking, &level, room <= steps)?;
+    'levels: while steps < end && !level.is_empty() {
+        add_low(&mut sinking, &level, room as u128 <= steps)?;
         level = next_level(alloc, view, row, &level)?;
         steps += 1;
     }

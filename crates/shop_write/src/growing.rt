@@ -1,7 +1,9 @@
-//! The live rows while a batch changes them.
-ghost use Rattle.std.specs.Prelude.{◌≡◌, ◌<◌, ◌^◌, IfOk, OnOk, OnErr, [], ◌++◌, map};
+//! The live rows while operations change them.
+ghost use Rattle.std.specs.Prelude.{◌≡◌, ◌<◌, ◌^◌, true, Ok, IfOk, IfErr, OnOk, OnErr, [], ◌++◌, map};
 ghost use Rattle.std.specs.Option.{option_copied, option_map, option_to_list};
 ghost use Rattle.shop_defs.specs.Entities.{entity_number};
+ghost use Rattle.shop_defs.specs.Fitting.{op_fits};
+ghost use Rattle.shop_operations.specs.Operations.{operated};
 ghost use Rattle.shop_operations.specs.References.{live};
 ghost use Rattle.shop_operations.specs.Views.{change_places, drafted};
 ghost use Rattle.shop_rows.specs.Changing.{StandUnderTheirKeys, HasAscendingKeys};
@@ -9,22 +11,27 @@ ghost use Rattle.shop_rows.specs.Lookups.{count_rows};
 ghost use Rattle.shop_rows.specs.Owners.{count_owned};
 ghost use Rattle.shop_defs.specs.Rows.{row_at, row_key, change_rows};
 ghost use Rattle.shop_write.specs.Growth as spec;
-ghost use Rattle.shop_write.specs.Growth.{left_by, grown, changes_so_far, AreLive};
+ghost use Rattle.shop_write.specs.Growth.{left_by, grown, grown_view, changes_so_far, AreLive};
+ghost use Rattle.shop_write.specs.Planning.{IsPlanFault};
+ghost use Rattle.shop_write.specs.Writes.{TakesUpsert};
 
 use crate::live::live_key;
 use crate::merging::{joined_keys, merged_keys};
+use crate::operation::plan_op;
 use crate::view::View;
-use shop_defs::{Copied, Delta, Entity, Key, List, NoMemory, OwnerLimit, Row};
+use shop_defs::{
+    Copied, Delta, Entity, Key, List, NoMemory, Op, OpKind, OwnerLimit, PlanFault, Row,
+};
 use shop_rows::Rows;
 use std::alloc::{AllocError, Global};
 use std::marker::Model;
 
-/// The live rows that a batch found, and what it changed of them so far.
+/// The live rows that operations found, and what they changed of them so far: a view of version 0.
 ///
-/// Contracts see the rows that the batch found, those of them that it replaced or took out, and those
-/// that it put. A look-up costs what it finds and searches in these three.
+/// Contracts see the rows that the operations found, those of them that they replaced or took out, and
+/// those that they put. A look-up goes by place, and costs what it finds and searches in these three.
 #[derive(Drop)]
-pub(crate) struct Growing<'a> {
+pub struct Growing<'a> {
     base: &'a Rows,
     /// The live rows of the base that were replaced or taken out, as they were.
     lost: Rows,
@@ -44,7 +51,7 @@ impl<'a> Model for Growing<'a> {
 
 impl<'a> Growing<'a> {
     /// The live rows, of which nothing is changed yet. It takes no memory.
-    pub(crate) fn new(alloc: Global, base: &'a Rows) -> Growing<'a>
+    pub fn new(alloc: Global, base: &'a Rows) -> Growing<'a>
         ensures { result ≡ record { base = base.entry.now.list; lost = []; over = [] } }
     {
         let _order = base.as_slice();
@@ -55,9 +62,28 @@ impl<'a> Growing<'a> {
         }
     }
 
+    /// Does the operation. With `replay` a delete of a row that isn't there changes nothing.
+    ///
+    /// An upsert asks what `plan_op` asks. The first rule that it breaks refuses it, without a number of
+    /// an operation; the other error is want of memory. After both the rows stay as they were.
+    pub fn operate(&mut self, alloc: Global, op: &Op, replay: bool) -> Result<(), PlanFault>
+        requires takes { op.now.kind ≡ OpKind.Upsert → TakesUpsert (grown_view self.old) op.now }
+        requires fits { op_fits op.now ≡ true }
+        ensures ok { OnOk result (operated (grown_view self.old) op.now replay ≡ Ok (grown self.new)) }
+        ensures fault { IfErr result (IsPlanFault (grown_view self.old) op.now replay) }
+        ensures base { self.new.base ≡ self.old.base }
+        ensures err { OnErr result (self.new ≡ self.old) }
+    {
+        let delta = plan_op(alloc, self, op, replay)?;
+        match self.take_in(alloc, delta) {
+            Ok(()) => Ok(()),
+            Err(_) => Err(PlanFault::NoMemory),
+        }
+    }
+
     /// Makes the changes, of which each key is live and stands once, and each row under its key.
     /// Where memory is refused, which is the only error, the live rows stay as they were.
-    pub(crate) fn take_in(&mut self, alloc: Global, delta: Delta) -> Result<(), NoMemory>
+    fn take_in(&mut self, alloc: Global, delta: Delta) -> Result<(), NoMemory>
         requires ascend { HasAscendingKeys delta.changes }
         requires stand { StandUnderTheirKeys delta.changes }
         requires live { AreLive delta.changes }
@@ -73,9 +99,9 @@ impl<'a> Growing<'a> {
         Ok(())
     }
 
-    /// What the batch changed so far, as one delta over the rows that it found. Want of memory is the
-    /// only error.
-    pub(crate) fn delta(&self, alloc: Global) -> Result<Delta, NoMemory>
+    /// What the operations changed so far, as one delta over the rows that they found. Want of memory is
+    /// the only error.
+    pub fn delta(&self, alloc: Global) -> Result<Delta, NoMemory>
         ensures changes { IfOk result (λ delta. delta.changes ≡ changes_so_far self.now) }
         ensures ascend { IfOk result (λ delta. HasAscendingKeys delta.changes) }
         ensures stand { IfOk result (λ delta. StandUnderTheirKeys delta.changes) }

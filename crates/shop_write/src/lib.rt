@@ -3,12 +3,15 @@
 //! # What is promised
 //!
 //! - `View` is what an operation sees: each of its look-ups is the part of one list that it stands
-//!   for. The live rows of a shop are a view, and so are live rows while a batch changes them
+//!   for. The live rows of a shop are a view, and so are live rows while operations change them
 //!   (`Growing`).
 //! - `plan_op` answers the changes of one operation, which are those of its definition over every
 //!   view, or the first rule that the operation breaks (`Planned`, over `operated`), both ways. An
-//!   upsert asks that the view is coherent, as an accepted batch leaves it.
-//! - `reach` answers what an operation would leave, take out and empty (`IsReach`).
+//!   upsert asks that keys are of their entities' forms, and where it gives a parent to a live row,
+//!   that no live row stands too low (`TakesUpsert`).
+//! - `reach` answers what an operation would leave, take out and empty (`IsReach`), over any view.
+//! - `Growing::operate` does an operation on growing rows: they are then what the operation leaves,
+//!   or stay where it is refused.
 //! - `plan` does a batch over the live rows, all or none, and numbers a refusal from 1
 //!   (`PlansBatch`, over `live_batch`): the changes make the live rows what the operations leave,
 //!   and leave the rows of drafts; their keys are live and ascend, and each row stands under its
@@ -16,8 +19,8 @@
 //! - Both say in words what their changes leave (`PlanLeaves`, `BatchPlanLeaves`, over `Leaves` of
 //!   `shop_operations`), so a definition that ignores what is given, or empties what it needn't,
 //!   would be refused too.
-//! - `shop_core` calls `plan`; the other two are there for merges. That nothing walks over all rows
-//!   is how it is written; no clause speaks of it.
+//! - `shop_core` calls `plan`; the others are there for drafts and merges. That nothing walks over
+//!   all rows is how it is written; no clause speaks of it.
 #![tactic(auto)]
 
 mod batch;
@@ -40,5 +43,6 @@ mod written;
 
 pub use batch::plan;
 pub use effects::{Reached, reach};
+pub use growing::Growing;
 pub use operation::plan_op;
 pub use view::View;

@@ -3,8 +3,8 @@ ghost use Rattle.std.specs.Prelude.{◌≡◌, true};
 ghost use Rattle.shop_defs.specs.Fitting.{op_fits};
 ghost use Rattle.shop_defs.specs.declared.refused.PlanFault.TheVariants as faults;
 ghost use Rattle.shop_operations.specs.Operations as spec;
-ghost use Rattle.shop_operations.specs.Soundness.{IsCoherent};
 ghost use Rattle.shop_write.specs.Planning.{Planned, PlanLeaves};
+ghost use Rattle.shop_write.specs.Writes.{TakesUpsert};
 
 use crate::delete::plan_delete;
 use crate::upsert::plan_upsert;
@@ -17,10 +17,13 @@ use std::alloc::Global;
 ///
 /// The keys of the changes ascend: each is the own key of a row of the view, or the one at which the
 /// view shows a row that is inserted. With `replay` a delete of a row that isn't there changes
-/// nothing. The other error is want of memory. An upsert asks for rows that fit one another; what a
-/// delete changes is exact over any rows.
+/// nothing. The other error is want of memory.
+///
+/// A delete asks nothing of the view. An upsert asks that keys are of their entities' forms, and, where
+/// it gives a parent to a live row, that no live row stands lower than it may. What a draft shows needn't
+/// fit otherwise, since live rows move on under the draft's own.
 pub fn plan_op<V: View>(alloc: Global, view: &V, op: &Op, replay: bool) -> Result<Delta, PlanFault>
-    requires coherent { op.now.kind ≡ OpKind.Upsert → IsCoherent (V.seen view.now) }
+    requires takes { op.now.kind ≡ OpKind.Upsert → TakesUpsert (V.seen view.now) op.now }
     requires fits { op_fits op.now ≡ true }
     // The changes are those of the operation's definition, or the refusal is.
     ensures plan { Planned (V.seen view.now) op.now replay result }

@@ -1,11 +1,12 @@
 //! Places of rows, in order.
-ghost use Rattle.std.specs.Prelude.{◌≡◌, [], OnOk};
+ghost use Rattle.std.specs.Prelude.{◌≡◌, [], IfOk, OnOk};
 ghost use Rattle.shop_write.specs.Places as spec;
 ghost use Rattle.keyed.specs.Keyed.{put};
 
 use ordered::{Entry, Ordered};
 use shop_defs::{Entity, Key, NoMemory, Row};
 use std::alloc::Global;
+use std::collections::BTreeSet;
 use std::marker::Model;
 
 /// Where a row stands, whatever its version. Places are ordered by the number of the entity, by id
@@ -71,23 +72,6 @@ impl Model for Places {
 }
 
 impl Places {
-    /// No places. It takes no memory.
-    pub(crate) fn new(alloc: Global) -> Places
-        ensures { result ≡ [] }
-    {
-        Places {
-            places: Ordered::new(alloc),
-        }
-    }
-
-    /// Puts the place among the others, if it isn't there yet.
-    pub(crate) fn put(&mut self, place: Place) -> Result<(), NoMemory>
-        ensures { OnOk result (self.new ≡ put spec.order spec.itself self.old place) }
-    {
-        self.places.put(place)?;
-        Ok(())
-    }
-
     /// Whether the row stands at one of the places.
     pub(crate) fn has(&self, row: &Row) -> bool
         ensures { result ≡ spec.stands_among self.now row.now }
@@ -115,4 +99,68 @@ impl Places {
     {
         self.places.as_slice()
     }
+}
+
+/// Places that are found in any order, each once. To put one, and to look for one, costs the logarithm
+/// of their number.
+#[derive(Drop)]
+pub(crate) struct Gathered {
+    places: BTreeSet<Place>,
+}
+
+impl Model for Gathered {
+    ghost use Rattle.std.specs.Prelude.{List};
+    ghost use Rattle.shop_write.specs.declared.place.Place.{Place};
+    ghost use Rattle.shop_write.specs.Places.{Rise};
+
+    ghost Value = { List Place };
+
+    ghost view = { λ r. r.places.keys };
+
+    ghost invariant = { λ r. Rise r.places.keys };
+}
+
+impl Gathered {
+    /// No places. It takes no memory.
+    pub(crate) fn new(alloc: Global) -> Gathered
+        ensures { result ≡ [] }
+    {
+        Gathered {
+            places: BTreeSet::new(alloc),
+        }
+    }
+
+    /// Puts the place among the others, if it isn't there yet.
+    pub(crate) fn put(&mut self, place: Place) -> Result<(), NoMemory>
+        ensures { OnOk result (self.new ≡ put spec.order spec.itself self.old place) }
+    {
+        match self.places.replace(place) {
+            Ok(_) => Ok(()),
+            Err(_) => Err(NoMemory),
+        }
+    }
+
+    /// Whether the row stands at one of the places.
+    pub(crate) fn has(&self, row: &Row) -> bool
+        ensures { result ≡ spec.stands_among self.now row.now }
+    {
+        self.places.contains(&Place::of(&row.key))
+    }
+
+    /// The places in order.
+    pub(crate) fn into_places(self, alloc: Global) -> Result<Places, NoMemory>
+        ensures { IfOk result (λ places. places ≡ self) }
+    {
+        let places = listed(alloc, &self.places)?;
+        Ok(Places {
+            places: Ordered::from_ascending(places),
+        })
+    }
+}
+
+fn listed(alloc: Global, places: &BTreeSet<Place>) -> Result<Vec<Place>, NoMemory>
+    ensures { IfOk result (λ list. list.items ≡ places.now.keys) }
+{
+    let places = places.iter().copied();
+    Ok(places.collect(alloc)?)
 }

@@ -3,10 +3,9 @@ ghost use Rattle.std.specs.Prelude.{◌≡◌, ◌∷◌, [], Bool, Some, None, 
 ghost use Rattle.std.specs.Option.{option_copied};
 ghost use Rattle.shop_defs.specs.Fitting.{op_fits};
 ghost use Rattle.shop_operations.specs.Operations as spec;
-ghost use Rattle.shop_operations.specs.Soundness.{IsCoherent};
 ghost use Rattle.shop_operations.specs.Upserts as upserts;
 ghost use Rattle.shop_write.specs.Planning.{Planned};
-ghost use Rattle.shop_write.specs.Writes.{IsWrite};
+ghost use Rattle.shop_write.specs.Writes.{TakesUpsert, IsWrite, are_shallow};
 
 use crate::cycle::is_below_itself;
 use crate::depth::too_deep;
@@ -39,7 +38,8 @@ fn broken_parent<V: View>(
     op: &Op,
     row: &Row,
 ) -> Result<Option<Broken>, NoMemory>
-    requires { IsWrite (V.seen view.now) row.now }
+    requires write { IsWrite (V.seen view.now) row.now }
+    requires live { upserts.gives_parent op.now ≡ true → (V.seen view.now).version ≡ 0 → are_shallow (V.seen view.now).rows ≡ true }
     ensures { let rows = upserts.with_row (V.seen view.now).rows row.now in IfOk result (λ broken. broken ≡ spec.first (upserts.parent_cycle rows op.now row.now ∷ upserts.parent_too_deep rows op.now row.now ∷ [])) }
 {
     if !gives_parent(op) {
@@ -89,6 +89,7 @@ fn broken_by<V: View>(
     row: &Row,
 ) -> Result<Option<Broken>, NoMemory>
     requires write { IsWrite (V.seen view.now) row.now }
+    requires live { upserts.gives_parent op.now ≡ true → (V.seen view.now).version ≡ 0 → are_shallow (V.seen view.now).rows ≡ true }
     requires before { option_copied before ≡ upserts.row_in (V.seen view.now).rows (spec.place (V.seen view.now) op.now) }
     ensures { IfOk result (λ broken. broken ≡ spec.broken_by (V.seen view.now) op.now row.now) }
 {
@@ -112,7 +113,7 @@ fn broken_by<V: View>(
 /// No row is looked at but those that the row names, that are above or below it, and that have its
 /// unique fields.
 pub(crate) fn plan_upsert<V: View>(alloc: Global, view: &V, op: &Op) -> Result<Delta, PlanFault>
-    requires coherent { IsCoherent (V.seen view.now) }
+    requires takes { TakesUpsert (V.seen view.now) op.now }
     requires fits { op_fits op.now ≡ true }
     requires kind { op.now.kind ≡ OpKind.Upsert }
     ensures { (replay : Bool) → Planned (V.seen view.now) op.now replay result }

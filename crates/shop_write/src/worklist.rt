@@ -7,7 +7,7 @@ ghost use Rattle.shop_operations.specs.Views.{IsInPlaceOrder};
 ghost use Rattle.closure.specs.Closure.{IsIn};
 ghost use Rattle.shop_write.specs.Searching as spec;
 
-use crate::place::{Place, Places};
+use crate::place::{Gathered, Place, Places};
 use crate::view::View;
 use shop_defs::{Key, List, NoMemory, Row};
 use shop_operations::falls_with;
@@ -17,23 +17,33 @@ use std::alloc::Global;
 #[derive(Drop)]
 pub(crate) struct Search {
     /// Where the rows stand that go.
+    pub(crate) lost: Gathered,
+    /// Where rows stand that refer to one that goes. Some of them may go too.
+    pub(crate) near: Gathered,
+    /// Where the rows stand that go and whose referrers aren't looked at yet.
+    pub(crate) pending: List<Place>,
+}
+
+/// What a delete touches.
+#[derive(Drop)]
+pub(crate) struct Affected {
+    /// Where the rows stand that go.
     pub(crate) lost: Places,
     /// Where rows stand that refer to one that goes. Some of them may go too.
     pub(crate) near: Places,
-    /// Where the rows stand that go and whose referrers aren't looked at yet.
-    pub(crate) pending: List<Place>,
 }
 
 /// What a delete of the row at the key touches: each row that goes, and each that refers to one of
 /// them. Want of memory is the only error.
 ///
-/// It takes as many steps as there are rows that go and references to them.
+/// It takes as many steps as there are rows that go and references to them, each of the logarithm of
+/// their number.
 pub(crate) fn touched<V: View>(
     alloc: Global,
     view: &V,
     key: &Key,
     row: &Row,
-) -> Result<Search, NoMemory>
+) -> Result<Affected, NoMemory>
     requires row { row_in (V.seen view.now).rows key.now ≡ Some row.now }
     requires order { IsInPlaceOrder (V.seen view.now).rows }
     ensures { IfOk result (spec.IsTouched REFERENCES (V.seen view.now).rows key.now) }
@@ -42,7 +52,17 @@ pub(crate) fn touched<V: View>(
     while let Some(next) = search.pending.pop() {
         spread(alloc, view, &next.key(view.version()), &mut search)?;
     }
-    Ok(search)
+    in_order(alloc, search)
+}
+
+/// What was found, in the order of places.
+fn in_order(alloc: Global, search: Search) -> Result<Affected, NoMemory>
+    ensures { IfOk result (λ touched. touched ≡ record { lost = search.lost; near = search.near }) }
+{
+    Ok(Affected {
+        lost: search.lost.into_places(alloc)?,
+        near: search.near.into_places(alloc)?,
+    })
 }
 
 /// A search that begins at the row.
@@ -50,8 +70,8 @@ fn begin(alloc: Global, row: &Row) -> Result<Search, NoMemory>
     ensures { IfOk result (spec.Begins row.now) }
 {
     let mut search = Search {
-        lost: Places::new(alloc),
-        near: Places::new(alloc),
+        lost: Gathered::new(alloc),
+        near: Gathered::new(alloc),
         pending: List::new(alloc),
     };
     search.lost.put(Place::of(&row.key))?;

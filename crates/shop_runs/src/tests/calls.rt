@@ -15,7 +15,7 @@ use shop_write::{plan_op, reach};
 use std::alloc::Global;
 use std::test::Fail;
 
-fn key(entity: Entity, version: u128, id: u128, second: u128) -> Key {
+pub(crate) fn key(entity: Entity, version: u128, id: u128, second: u128) -> Key {
     Key {
         entity,
         version,

@@ -1,6 +1,6 @@
-use Rattle.std.proofs.Common.{◌++◌, ◌∷◌, [], ap, arith, ◌∙◌}
-use Rattle.std.proofs.lemmas.Bool.{both_ways}
-use Rattle.shop_write.proofs.IdsDown.{gathers_start, gathers_step, gathers_end, gathers_soon}
+use Rattle.std.proofs.Common.{◌++◌, ◌∷◌, [], ap, ◌∙◌}
+use Rattle.shop_write.proofs.IdsDown.{gathers_start, gathers_step, gathers_end, gathers_none}
+use Rattle.shop_write.proofs.depth.sinking_ids.Goals.{then-levels-test+else-not-is_empty, else-levels-test}
 use Rattle.shop_write.proofs.depth.sinking_ids.Goals as goal
 
 pub levels-init : goal.levels-init
@@ -8,22 +8,19 @@ levels-init g c =
     gathers_start (g.V.View.seen c.args.view.now) c.args.row.now c.requires.write c.requires.free c.args.most c.requires.limited _ _ _
     (c.in_ok-push.ensures.ok ∙ ap (λ ids. ids ++ c.args.row.now.key.id ∷ []) c.new-level.ensures) c.new-sinking.ensures
 
-pub overflow_add-steps : goal.overflow_add-steps
-overflow_add-steps g c =
-    let l = gathers_soon (g.V.View.seen c.args.view.now) c.args.row.now c.requires.write c.requires.free c.args.most c.requires.limited _ _ _ _ (λ e. both_ways c.is_empty.result c.levels-test.true (c.is_empty.ensures.1 e)) c.levels.invariant in
-    omega (arith, l.0, l.1)
-
 pub levels-preserved : goal.levels-preserved
 levels-preserved g c =
     gathers_step (g.V.View.seen c.args.view.now) c.args.row.now c.requires.write c.requires.free c.args.most c.requires.limited _ _ _ _ _ _
     c.in_ok-level.ensures c.in_ok-add_low.ensures c.levels.invariant
 
-pub levels-smaller : goal.levels-smaller
-levels-smaller g c =
-    let l = gathers_soon (g.V.View.seen c.args.view.now) c.args.row.now c.requires.write c.requires.free c.args.most c.requires.limited _ _ _ _ (λ e. both_ways c.is_empty.result c.levels-test.true (c.is_empty.ensures.1 e)) c.levels.invariant in
-    omega (arith, l.0)
-
 pub returns : goal.returns
-returns g c =
-    gathers_end (g.V.View.seen c.args.view.now) c.args.row.now c.requires.write c.requires.free c.args.most c.requires.limited c.rows_above.result _ c.levels.level _
-    c.rows_above.ensures.value (c.is_empty.ensures.0 c.levels-test.false) c.levels.invariant
+returns g c = elim c.levels-test.branch [
+  | then-levels-test+else-not-is_empty w ↦
+      gathers_end (g.V.View.seen c.args.view.now) c.args.row.now c.requires.write c.requires.free c.args.most c.requires.limited c.rows_above.result _ c.levels.level _
+      c.rows_above.ensures.value (w.is_empty.ensures.0 w.if-not-is_empty.false) c.levels.invariant
+  | else-levels-test w ↦
+      gathers_end (g.V.View.seen c.args.view.now) c.args.row.now c.requires.write c.requires.free c.args.most c.requires.limited c.rows_above.result _ c.levels.level _
+      c.rows_above.ensures.value
+      (gathers_none (g.V.View.seen c.args.view.now) c.args.row.now c.requires.write c.requires.free c.args.most c.requires.limited _ _ c.count.result _ _ c.count.ensures w.levels-test.false c.levels.invariant)
+      c.levels.invariant
+]

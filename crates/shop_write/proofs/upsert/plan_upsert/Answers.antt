@@ -25,4 +25,4 @@ broken_by-requires-clause-write g c =
     is_write (g.V.View.seen c.args.view.now) c.args.op.now (option_copied c.get-before.result)
     (c.get-before.ensures.row ∙ ap (row_in (g.V.View.seen c.args.view.now).rows) c.place_of-key.ensures) c.in_ok-row.row
     (c.in_ok-row.ensures ∙ ap (λ (key : Key). given_to (unwrap_or (option_copied c.get-before.result) (bare_row key)) c.args.op.now) c.place_of-key.ensures)
-    c.requires.coherent c.requires.fits
+    c.get-before.ensures.order c.requires.takes c.requires.fits

@@ -5,7 +5,7 @@ use Rattle.shop_defs.specs.declared.row.Row.{Row}
 use Rattle.shop_defs.specs.declared.table.TheConstants.{REFERENCES}
 use Rattle.shop_write.specs.declared.place.Place.{Place}
 use Rattle.shop_write.specs.Searching.{IsSpread, IsNoted, IsFound, refers_to}
-use Rattle.shop_write.proofs.Founds.{found_first, found_more, found_all}
+use Rattle.shop_write.proofs.Founds.{found_first, found_more, found_all, touched_is}
 use Rattle.shop_write.proofs.worklist.touched.Goals as goal
 
 pub loop-next-init : goal.loop-next-init
@@ -20,5 +20,6 @@ loop-next-preserved g c =
 pub returns : goal.returns
 returns g c =
     let e = c.in_default.ensures in
-    found_all REFERENCES (g.V.View.seen c.args.view.now).rows c.args.key.now (record c.loop-next.search { pending = c.pop.new.self }) c.requires.order e.1
-    (subst (λ (places : List Place). IsFound REFERENCES (g.V.View.seen c.args.view.now).rows c.args.key.now (record c.loop-next.search { pending = places })) (e.0 ∙ sym e.1) c.loop-next.invariant)
+    touched_is REFERENCES (g.V.View.seen c.args.view.now).rows c.args.key.now (record { lost = c.loop-next.search.lost; near = c.loop-next.search.near }) c.in_order.result c.in_order.ensures
+    (found_all REFERENCES (g.V.View.seen c.args.view.now).rows c.args.key.now (record c.loop-next.search { pending = c.pop.new.self }) c.requires.order e.1
+    (subst (λ (places : List Place). IsFound REFERENCES (g.V.View.seen c.args.view.now).rows c.args.key.now (record c.loop-next.search { pending = places })) (e.0 ∙ sym e.1) c.loop-next.invariant))

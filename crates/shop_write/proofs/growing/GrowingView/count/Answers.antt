@@ -1,4 +1,4 @@
-use Rattle.std.proofs.Common.{arith, ap}
+use Rattle.std.proofs.Common.{arith}
 use Rattle.shop_operations.specs.References.{is_entity}
 use Rattle.shop_defs.specs.declared.row.Row.{Row}
 use Rattle.shop_write.proofs.Growths.{count-grown}
