@@ -40,7 +40,7 @@ pub(crate) fn first_broken<O: Others>(
 }
 
 /// The first of these rules that the row fails among the others.
-fn rule_broken<O: Others>(others: &O, row: &Row, known_within: bool) -> Option<Rule>
+pub(crate) fn rule_broken<O: Others>(others: &O, row: &Row, known_within: bool) -> Option<Rule>
     requires formed { are_formed (O.rows others.now) ≡ true }
     requires within { known_within ≡ true → owners_are_within (O.rows others.now) ≡ true }
     ensures { result ≡ spec.rule_failed_among (O.rows others.now) row.now }
@@ -183,7 +183,7 @@ fn breaks_limit<O: Others>(others: &O, row: &Row, known_within: bool) -> bool
     requires reference { spec.breaks_reference (O.rows others.now) row.now ≡ false }
     ensures { result ≡ spec.breaks_limit (O.rows others.now) row.now }
 {
-    others.count_up_to(row) > MOST_ROWS as usize
+    others.are_more_up_to(row, MOST_ROWS as usize)
         || (is_live(row) && is_owner_full(others, row, known_within))
 }
 

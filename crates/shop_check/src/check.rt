@@ -7,7 +7,7 @@ ghost use Rattle.shop_check.specs.Soundness as spec;
 ghost use Rattle.shop_check.specs.Damage.{is_above, row_seen, seen, first_damage, Tells, FaultInWords, IsWantOfMemory, HoldBytes, KeptRowsAreUndamaged, UndamagedAreKept};
 ghost use Rattle.shop_check.specs.Found.{own_rule, own_failed, own_damage, tried_from, first_among, earlier_or, are_formed, IsReadOf, IsReadAs, IsRuleOf, IsInOrderWhere};
 
-use crate::among::first_broken;
+use crate::among::{first_broken, rule_broken};
 use crate::fault::{CheckFault, Rule};
 use crate::indexed::owners_are_within;
 use crate::kind::passes_kind;
@@ -138,10 +138,25 @@ fn check_all(alloc: Global, rows: Vec<Row>) -> Result<Rows, CheckFault>
     ensures same { IfOk result (λ found. found.list ≡ rows.items) }
 {
     let rows = Rows::from_ascending(alloc, rows)?;
-    match first_broken(&rows, rows.as_slice(), owners_are_within(&rows)) {
+    match first_broken_of_all(&rows) {
         None => Ok(rows),
         Some((key, rule)) => Err(CheckFault::Damaged { key, rule }),
     }
+}
+
+/// The key of the first of the rows that fails a rule among them all, with that rule.
+fn first_broken_of_all(rows: &Rows) -> Option<(Key, Rule)>
+    requires { are_formed rows.now.list ≡ true }
+    ensures { result ≡ first_among rows.now.list rows.now.list }
+{
+    let known_within = owners_are_within(rows);
+    let mut rest = rows.iter();
+    while let Some(row) = rest.next() {
+        if let Some(rule) = rule_broken(rows, row, known_within) {
+            return Some((row.key, rule));
+        }
+    }
+    None
 }
 
 /// The damage of the first of the tried rows that fails a rule among all rows that rules see, or

@@ -1,25 +1,24 @@
 //! Rows in the order of their keys, in which searches find what is looked up.
-ghost use Rattle.std.specs.Prelude.{◌≡◌, true};
+ghost use Rattle.std.specs.Prelude.{◌≡◌, ◌<◌, ◌^◌, ◌&&◌, count_by, length};
 ghost use Rattle.std.specs.List.{list_all};
 ghost use Rattle.std.specs.Ordering.{is_le};
 ghost use Rattle.shop_defs.specs.Keys.{key_cmp};
-ghost use Rattle.shop_defs.specs.Rows.{IsInKeyOrder};
-ghost use Rattle.shop_rows.specs.Lookups.{count_rows};
+ghost use Rattle.shop_operations.specs.References.{is_entity, is_live};
+ghost use Rattle.shop_operations.specs.Upserts.{is_of_owner};
 ghost use Rattle.shop_defs.specs.declared.table.TheConstants.{OWNER_LIMITS, REFERENCES};
 ghost use Rattle.shop_rows.specs.Searches.{same_part};
 ghost use Rattle.shop_check.specs.Found as spec;
-ghost use Rattle.shop_check.specs.Standing.{up_to};
 
-use crate::others::{Others, agree_within, count_owned_up_to, is_up_to};
+use crate::others::{Others, agree_within, is_owned_up_to, is_up_to};
 use shop_defs::{Entity, Key, OWNER_LIMITS, OwnerLimit, Part, REFERENCES, Reference, Row};
 use shop_operations::{named, part_of};
-use shop_rows::Rows;
+use shop_rows::{Rows, Walk};
 
 impl Others for Rows {
     ghost rows = { λ rows. rows.list };
 
     fn one<'a>(&'a self, entity: Entity, id: u128) -> Option<&'a Row> {
-        let _order = self.as_slice();
+        let _order = self.len();
         self.get(&Key {
             entity,
             version: 0,
@@ -29,7 +28,7 @@ impl Others for Rows {
     }
 
     fn is_of_tree(&self, reference: &Reference, row: &Row) -> bool {
-        let _order = self.as_slice();
+        let _order = self.len();
         match named(reference, row) {
             None => true,
             Some(id) => match self.one(reference.of, id) {
@@ -40,15 +39,16 @@ impl Others for Rows {
     }
 
     fn has_lower_twin(&self, row: &Row) -> bool {
-        let _order = self.as_slice();
+        let _order = self.len();
         match self.twin(row) {
             Some(other) => other.key.order(&row.key).is_lt(),
             None => false,
         }
     }
 
-    fn count_up_to(&self, row: &Row) -> usize {
-        count_last(rows_up_to(self.as_slice(), row), row)
+    fn are_more_up_to(&self, row: &Row, most: usize) -> bool {
+        let _few = self.len();
+        self.count(row.key.entity) > most && count_up_to(self.iter(), row) > most
     }
 
     fn is_owner_full(&self, limit: &OwnerLimit, row: &Row) -> bool {
@@ -57,34 +57,31 @@ impl Others for Rows {
         }
         match part_of(limit.owner, row) {
             Some(owner) => {
+                let _few = self.len();
                 self.count_owned(limit, owner) > limit.most as usize
-                    && count_owned_up_to(self.as_slice(), limit, row) > limit.most as usize
+                    && count_owned_up_to(self.iter(), limit, row) > limit.most as usize
             }
             None => false,
         }
     }
 }
 
-/// The rows up to the row, found by a binary search.
-fn rows_up_to<'a>(rows: &'a [Row], row: &Row) -> &'a [Row]
-    requires { IsInKeyOrder rows.now }
-    ensures rows { result.now ≡ up_to rows.entry.now row.now }
-    ensures order { IsInKeyOrder result.now }
-    ensures up { list_all (λ other. is_le (key_cmp other.key row.now.key)) result.now ≡ true }
+/// How many rows of the row's entity there are up to the row: a walk over all rows.
+fn count_up_to(rows: Walk<'_>, row: &Row) -> usize
+    requires { length rows < 2 ^ 63 }
+    ensures { result ≡ count_by (λ other. is_le (key_cmp other.key row.now.key) && is_entity row.now.key.entity other.key.entity) rows.entry }
 {
-    let end = rows.partition_point(|other| is_up_to(row, other));
-    &rows[..end]
+    rows.filter(|other| is_up_to(row, other) && row.key.entity == other.key.entity)
+        .count()
 }
 
-/// How many rows of the row's entity there are, found by a binary search: they are the last ones of
-/// the rows up to the row.
-fn count_last(rows: &[Row], row: &Row) -> usize
-    requires order { IsInKeyOrder rows.now }
-    requires up { list_all (λ other. is_le (key_cmp other.key row.now.key)) rows.now ≡ true }
-    ensures { result ≡ count_rows rows.now row.now.key.entity }
+/// How many live rows belong to the row's owner, up to the row: a walk over all rows.
+fn count_owned_up_to(rows: Walk<'_>, limit: &OwnerLimit, row: &Row) -> usize
+    requires { length rows < 2 ^ 63 }
+    ensures { result ≡ count_by (λ other. is_le (key_cmp other.key row.now.key) && (is_live other && is_of_owner limit.now row.now other)) rows.entry }
 {
-    let start = rows.partition_point(|other| other.key.entity.cmp(&row.key.entity).is_lt());
-    rows.len() - start
+    rows.filter(|other| is_owned_up_to(limit, row, other))
+        .count()
 }
 
 /// Whether none of the rows owns more of them than a limit allows: each row of a limit is counted
@@ -92,13 +89,14 @@ fn count_last(rows: &[Row], row: &Row) -> usize
 pub(crate) fn owners_are_within(rows: &Rows) -> bool
     ensures { result ≡ spec.owners_are_within rows.now.list }
 {
-    are_all_within(rows, rows.as_slice())
+    are_all_within(rows, rows.iter())
 }
 
-fn are_all_within(rows: &Rows, owners: &[Row]) -> bool
-    ensures { result ≡ list_all (λ owner. list_all (spec.is_within rows.now.list owner) OWNER_LIMITS) owners.now }
+fn are_all_within(rows: &Rows, owners: Walk<'_>) -> bool
+    ensures { result ≡ list_all (λ owner. list_all (spec.is_within rows.now.list owner) OWNER_LIMITS) owners.entry }
 {
-    owners.iter().all(|owner| owns_few(rows, owner))
+    let mut owners = owners;
+    owners.all(|owner| owns_few(rows, owner))
 }
 
 fn owns_few(rows: &Rows, owner: &Row) -> bool

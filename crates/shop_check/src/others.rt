@@ -1,5 +1,5 @@
 //! The rows that a row stands among, and what is looked up in them.
-ghost use Rattle.std.specs.Prelude.{◌≡◌, ◌&&◌, true, find, count_by};
+ghost use Rattle.std.specs.Prelude.{◌≡◌, ◌&&◌, true, find, nat_lt};
 ghost use Rattle.std.specs.List.{list_any};
 ghost use Rattle.std.specs.Option.{option_copied};
 ghost use Rattle.std.specs.Ordering.{is_lt, is_le};
@@ -37,9 +37,10 @@ pub(crate) trait Others {
         requires { is_live row.now ≡ true }
         ensures { result ≡ list_any (λ other. is_lt (key_cmp other.key row.now.key) && upserts.is_twin row.now other) (live (rows self.now)) };
 
-    /// How many rows of the row's entity there are up to the row, in the order of keys.
-    fn count_up_to(&self, row: &Row) -> usize
-        ensures { result ≡ count_rows (up_to (rows self.now) row.now) row.now.key.entity };
+    /// Whether there are more rows of the row's entity than so many up to the row, in the order of
+    /// keys.
+    fn are_more_up_to(&self, row: &Row, most: usize) -> bool
+        ensures { result ≡ nat_lt most (count_rows (up_to (rows self.now) row.now) row.now.key.entity) };
 
     /// Whether up to the row its owner has more live rows than the limit allows.
     fn is_owner_full(&self, limit: &OwnerLimit, row: &Row) -> bool
@@ -79,17 +80,8 @@ fn is_same_id(id: Option<u128>, other: Option<u128>) -> bool
     }
 }
 
-/// How many live rows belong to the row's owner, up to the row in the order of keys: a walk over
-/// all rows.
-pub(crate) fn count_owned_up_to(rows: &[Row], limit: &OwnerLimit, row: &Row) -> usize
-    ensures { result ≡ count_by (λ other. is_le (key_cmp other.key row.now.key) && (is_live other && upserts.is_of_owner limit.now row.now other)) rows.now }
-{
-    rows.iter()
-        .filter(|other| is_owned_up_to(limit, row, other))
-        .count()
-}
-
-fn is_owned_up_to(limit: &OwnerLimit, row: &Row, other: &Row) -> bool
+/// Whether the other is live, belongs to the row's owner, and isn't above the row.
+pub(crate) fn is_owned_up_to(limit: &OwnerLimit, row: &Row, other: &Row) -> bool
     ensures { result ≡ (is_le (key_cmp other.now.key row.now.key) && (is_live other.now && upserts.is_of_owner limit.now row.now other.now)) }
 {
     is_up_to(row, other) && is_live(other) && is_of_owner(limit, row, other)

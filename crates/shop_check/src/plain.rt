@@ -2,9 +2,10 @@
 ghost use Rattle.std.specs.Prelude.{◌≡◌, ◌&&◌, count_by};
 ghost use Rattle.std.specs.Ordering.{is_le};
 ghost use Rattle.shop_defs.specs.Keys.{key_cmp};
-ghost use Rattle.shop_operations.specs.References.{is_entity, is_one};
+ghost use Rattle.shop_operations.specs.References.{is_entity, is_live, is_one};
+ghost use Rattle.shop_operations.specs.Upserts.{is_of_owner};
 
-use crate::others::{Others, agree_within, count_owned_up_to, is_live, is_up_to};
+use crate::others::{Others, agree_within, is_live, is_owned_up_to, is_up_to};
 use shop_defs::{Entity, OwnerLimit, Reference, Row};
 use shop_operations::{is_twin, ties};
 
@@ -32,8 +33,8 @@ impl Others for Vec<Row> {
             && is_twin(row, other))
     }
 
-    fn count_up_to(&self, row: &Row) -> usize {
-        count_up_to(self.as_slice(), row)
+    fn are_more_up_to(&self, row: &Row, most: usize) -> bool {
+        count_up_to(self.as_slice(), row) > most
     }
 
     fn is_owner_full(&self, limit: &OwnerLimit, row: &Row) -> bool {
@@ -54,5 +55,15 @@ fn count_up_to(rows: &[Row], row: &Row) -> usize
 {
     rows.iter()
         .filter(|other| is_up_to(row, other) && row.key.entity == other.key.entity)
+        .count()
+}
+
+/// How many live rows belong to the row's owner, up to the row in the order of keys: a walk over
+/// all rows.
+fn count_owned_up_to(rows: &[Row], limit: &OwnerLimit, row: &Row) -> usize
+    ensures { result ≡ count_by (λ other. is_le (key_cmp other.key row.now.key) && (is_live other && is_of_owner limit.now row.now other)) rows.now }
+{
+    rows.iter()
+        .filter(|other| is_owned_up_to(limit, row, other))
         .count()
 }

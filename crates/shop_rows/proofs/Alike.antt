@@ -14,7 +14,7 @@ use Rattle.shop_defs.proofs.Keys.{key_cmp_total}
 use Rattle.shop_rows.specs.declared.topic.Topic.{Topic}
 use Rattle.shop_rows.specs.declared.topic.Mention.{Mention}
 use Rattle.shop_rows.specs.Topics.{has_topic, mention_cmp}
-use Rattle.shop_rows.specs.Mentions.{is_found, AreMentioned, topic_by, print_topic, same_topic, have_same_topics, is_found_alike}
+use Rattle.shop_rows.specs.Mentions.{is_found, AreMentioned, topic_by, print_topic, same_topic, have_same_topics}
 use Rattle.shop_rows.proofs.Mentioning.{marks, any_marks, row_marks, row_marks_topics, found_key}
 use Rattle.shop_rows.proofs.Same.{key_is, topic_is, is_equal, itself_equal}
 
@@ -40,7 +40,7 @@ any_alike (reference ∷ table) old row mention key e =
     λ i. marks_alike old row mention key (topic_by reference old) (topic_by reference row) (and_first _ _ e) i || any_alike table old row mention key (and_second _ _ e) i
 
 -- rows of one key with the same topics are found alike
-topics_alike : (old row : Row) → old.key ≡ row.key → have_same_topics old row ≡ true → (topic : Topic) → has_topic old topic ≡ has_topic row topic
+pub topics_alike : (old row : Row) → old.key ≡ row.key → have_same_topics old row ≡ true → (topic : Topic) → has_topic old topic ≡ has_topic row topic
 topics_alike old row key e topic =
     here old (ap is_eq (ap (λ (k : Key). key_cmp k row.key) key ∙ itself_equal key_cmp key_cmp_total row.key))
     ∙ ((λ i. marks_alike old row mention key (print_topic old) (print_topic row) (and_first _ _ e) i || any_alike REFERENCES old row mention key (and_second _ _ e) i)
@@ -51,23 +51,3 @@ topics_alike old row key e topic =
 
     here : (r : Row) → is_eq (key_cmp r.key row.key) ≡ true → has_topic r topic ≡ row_marks r (record { topic = topic; key = row.key })
     here r same = sym (row_marks_topics r topic row.key ∙ ap (λ (b : Bool). b && has_topic r topic) same)
-
--- what is mentioned of rows is mentioned of them with such a row
-pub mentioned_alike : (rows : List Row) (mentions : List Mention) (row : Row) → AreMentioned rows mentions → is_found_alike (row_at rows row.key) row ≡ true → AreMentioned (put key_cmp row_key rows row) mentions
-mentioned_alike rows mentions row are alike = record {
-  order = ascends_put key_cmp row_key key_cmp_total rows row are.order;
-  sorted = are.sorted;
-  fit = λ mention. are.fit mention
-      ∙ (by mention (is_eq (key_cmp row.key mention.key)) refl
-      ∙ sym (ap (λ (f : Option Row). is_found f mention.topic) (find_put key_cmp row_key key_cmp_total rows row mention.key)));
-}
-  where
-    found : (mention : Mention) (old : Option Row) → row_at rows row.key ≡ old → is_found_alike old row ≡ true → is_found old mention.topic ≡ has_topic row mention.topic
-    found mention None e same = absurd (cc)
-    found mention (Some old) e same = topics_alike old row (found_key rows row.key old e) same mention.topic
-
-    by : (mention : Mention) (b : Bool) → is_eq (key_cmp row.key mention.key) ≡ b → is_found (row_at rows mention.key) mention.topic ≡ is_found (if b then Some row else row_at rows mention.key) mention.topic
-    by mention true e =
-        ap (λ (k : Key). is_found (row_at rows k) mention.topic) (sym (key_is row.key mention.key (is_equal _ e)))
-        ∙ found mention (row_at rows row.key) refl alike
-    by mention false e = refl

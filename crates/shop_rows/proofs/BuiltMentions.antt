@@ -16,12 +16,9 @@ use Rattle.shop_defs.proofs.Keys.{key_cmp_total}
 use Rattle.shop_rows.specs.declared.topic.Topic.{Topic}
 use Rattle.shop_rows.specs.declared.topic.Mention.{Mention}
 use Rattle.shop_rows.specs.Topics.{has_topic, is_of_row, mention_cmp}
-use Rattle.shop_rows.specs.Mentions.{itself, has, is_found, AreMentioned, topic_by, print_topic, topic_mentions, reference_mentions, row_mentions}
+use Rattle.shop_rows.specs.Mentions.{itself, has, among, is_found, topic_by, print_topic, topic_mentions, reference_mentions, row_mentions}
 use Rattle.shop_rows.proofs.Mentioning.{marks, any_marks, row_marks_topics}
 use Rattle.shop_rows.proofs.Same.{key_is}
-
-abbrev pub among : List Mention → Mention → Bool
-among mentions mention = list_any (λ other. is_eq (mention_cmp other mention)) mentions
 
 pub has_is_among : (mentions : List Mention) (mention : Mention) → has mentions mention ≡ among mentions mention
 has_is_among [] mention = refl
@@ -51,18 +48,12 @@ among-references (reference ∷ table) row mention =
     list_any-append (λ other. is_eq (mention_cmp other mention)) (topic_mentions row.key (topic_by reference row)) (reference_mentions table row)
     ∙ (λ i. among-topic row (topic_by reference row) mention i || among-references table row mention i)
 
-among-row : (row : Row) (mention : Mention) → among (row_mentions row) mention ≡ is_of_row row mention
+pub among-row : (row : Row) (mention : Mention) → among (row_mentions row) mention ≡ is_of_row row mention
 unfolding row_mentions
 among-row row mention =
     list_any-append (λ other. is_eq (mention_cmp other mention)) (reference_mentions REFERENCES row) (topic_mentions row.key (print_topic row))
     ∙ ((λ i. among-references REFERENCES row mention i || among-topic row (print_topic row) mention i)
     ∙ (or_swap (any_marks REFERENCES row mention) (marks row (print_topic row) mention) ∙ row_marks_topics row mention.topic mention.key))
-
-among-rows : (rows : List Row) (mention : Mention) → among (flat_map row_mentions rows) mention ≡ list_any (λ row. is_of_row row mention) rows
-among-rows [] mention = refl
-among-rows (row ∷ rows) mention =
-    list_any-append (λ other. is_eq (mention_cmp other mention)) (row_mentions row) (flat_map row_mentions rows)
-    ∙ (λ i. among-row row mention i || among-rows rows mention i)
 
 -- a key below all rows is none of theirs
 pub none_above : (low : Key) (rows : List Row) (mention : Mention) → AllByRecursion (λ row. key_cmp low (row_key row) ≡ Less) rows → low ≡ mention.key → list_any (λ row. is_of_row row mention) rows ≡ false
@@ -81,11 +72,3 @@ found_in_order (row ∷ rows) mention order = by (found_in_order rows mention or
     by more Less e = rw e more
     by more Equal e = rw e (ap (λ (b : Bool). has_topic row mention.topic || b) (none_above row.key rows mention order.0 (key_is row.key mention.key e)) ∙ or_false (has_topic row mention.topic))
     by more Greater e = rw e more
-
--- sorted mentions that are among those of the rows are the mentions of the rows
-pub built : (rows : List Row) (mentions : List Mention) → IsInKeyOrder rows → Ascends mention_cmp itself mentions → ((mention : Mention) → among mentions mention ≡ among (flat_map row_mentions rows) mention) → AreMentioned rows mentions
-built rows mentions order sorted same = record {
-  order = order;
-  sorted = sorted;
-  fit = λ mention. has_is_among mentions mention ∙ (same mention ∙ (among-rows rows mention ∙ found_in_order rows mention order));
-}

@@ -16,11 +16,11 @@ use Rattle.shop_rows.specs.declared.topic.Topic.{Topic}
 use Rattle.shop_rows.specs.declared.topic.Mention.{Mention}
 use Rattle.shop_rows.specs.Topics.{has_topic, is_of_row, topic_cmp, mention_cmp}
 use Rattle.shop_rows.specs.TopicOrder.{topic_cmp_total}
-use Rattle.shop_rows.specs.Mentions.{itself, AreMentioned, rows_of}
+use Rattle.shop_rows.specs.Mentions.{itself, among, AreMentioned, rows_of}
 use Rattle.shop_rows.specs.Searches.{from_topic, from_topic_of}
 use Rattle.shop_rows.proofs.Same.{key_is, topic_is, is_equal, itself_equal, is_eq-then, is_eq-nat_cmp}
 use Rattle.shop_rows.proofs.SameLists.{its, same_lists}
-use Rattle.shop_rows.proofs.BuiltMentions.{among, has_is_among, found_in_order}
+use Rattle.shop_rows.proofs.BuiltMentions.{has_is_among, found_in_order}
 use Rattle.shop_rows.proofs.Lists.{filter-filter}
 
 -- the mention is of the topic

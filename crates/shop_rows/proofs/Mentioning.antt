@@ -1,12 +1,10 @@
--- The mentions of rows, as a row is put or taken out.
+-- Which mentions are of a row.
 use Rattle.std.proofs.Common.{◌≡◌, ℕ, Bool, true, false, not, cond, ◌==◌, ◌&&◌, ◌||◌, List, [], ◌∷◌, Option, Some, None, is_some, if◌then◌else◌, refl, sym, ap, ◌∙◌}
 use Rattle.std.specs.declared.cmp.Ordering.{Ordering}
 use Rattle.std.specs.declared.cmp.Ordering.TheVariants.{Less, Equal, Greater}
 use Rattle.std.specs.Ordering.{is_eq, nat_cmp, ordering_then}
 use Rattle.std.specs.Option.{option_map}
 use Rattle.std.specs.List.{list_any}
-use Rattle.keyed.specs.Keyed.{Ascends, find, put, without}
-use Rattle.keyed.proofs.Changes.{ascends_put, ascends_without, find_put, find_without}
 use Rattle.shop_defs.specs.declared.entity.Entity.{Entity}
 use Rattle.shop_defs.specs.declared.key.Key.{Key}
 use Rattle.shop_defs.specs.declared.row.Row.{Row}
@@ -23,7 +21,7 @@ use Rattle.shop_rows.specs.declared.topic.Topic.TheVariants as T
 use Rattle.shop_rows.specs.declared.topic.Mention.{Mention}
 use Rattle.shop_rows.specs.Prints.{print_of}
 use Rattle.shop_rows.specs.Topics.{has_topic, is_of_row, topic_cmp, mention_cmp}
-use Rattle.shop_rows.specs.Mentions.{itself, has, is_found, AreMentioned, topic_by, print_topic, with_topic, without_topic, with_references, without_references, with_row, without_row, without_found}
+use Rattle.shop_rows.specs.Mentions.{topic_by, print_topic}
 use Rattle.shop_rows.proofs.Same.{is_eq-nat_cmp, is_eq-then, is_equal, key_is, mention_cmp_total}
 
 -- ---- one mention
@@ -33,107 +31,15 @@ abbrev pub marks : Row → Option Topic → Mention → Bool
 marks row None mention = false
 marks row (Some topic) mention = is_eq (mention_cmp (record { topic = topic; key = row.key }) mention)
 
-some_or : {X : Type 0} (b : Bool) (x : X) (found : Option X) → is_some (if b then Some x else found) ≡ (b || is_some found)
-some_or true x found = refl
-some_or false x found = refl
-
-none_or : {X : Type 0} (b : Bool) (found : Option X) → is_some (if b then None else found) ≡ (not b && is_some found)
-none_or true found = refl
-none_or false found = refl
-
-has-with_topic : (row : Row) (topic : Option Topic) (mentions : List Mention) (mention : Mention) → has (with_topic row.key mentions topic) mention ≡ (marks row topic mention || has mentions mention)
-has-with_topic row None mentions mention = refl
-has-with_topic row (Some topic) mentions mention =
-    ap is_some (find_put mention_cmp itself mention_cmp_total mentions (record { topic = topic; key = row.key }) mention)
-    ∙ some_or (is_eq (mention_cmp (record { topic = topic; key = row.key }) mention)) (record { topic = topic; key = row.key }) (find mention_cmp itself mentions mention)
-
-has-without_topic : (row : Row) (topic : Option Topic) (mentions : List Mention) (mention : Mention) → Ascends mention_cmp itself mentions → has (without_topic row.key mentions topic) mention ≡ (not (marks row topic mention) && has mentions mention)
-has-without_topic row None mentions mention up = refl
-has-without_topic row (Some topic) mentions mention up =
-    ap is_some (find_without mention_cmp itself mention_cmp_total mentions (record { topic = topic; key = row.key }) mention up)
-    ∙ none_or (is_eq (mention_cmp (record { topic = topic; key = row.key }) mention)) (find mention_cmp itself mentions mention)
-
-sorted-with_topic : (row : Row) (topic : Option Topic) (mentions : List Mention) → Ascends mention_cmp itself mentions → Ascends mention_cmp itself (with_topic row.key mentions topic)
-sorted-with_topic row None mentions up = up
-sorted-with_topic row (Some topic) mentions up = ascends_put mention_cmp itself mention_cmp_total mentions (record { topic = topic; key = row.key }) up
-
-sorted-without_topic : (row : Row) (topic : Option Topic) (mentions : List Mention) → Ascends mention_cmp itself mentions → Ascends mention_cmp itself (without_topic row.key mentions topic)
-sorted-without_topic row None mentions up = up
-sorted-without_topic row (Some topic) mentions up = ascends_without mention_cmp itself mention_cmp_total mentions (record { topic = topic; key = row.key }) up
-
 -- ---- the mentions by references
 
 abbrev pub any_marks : List Reference → Row → Mention → Bool
 any_marks table row mention = list_any (λ reference. marks row (topic_by reference row) mention) table
 
-or_later : (a b c : Bool) → (b || (a || c)) ≡ ((a || b) || c)
-or_later true true c = refl
-or_later true false c = refl
-or_later false true c = refl
-or_later false false c = refl
-
-nor_later : (a b c : Bool) → (not b && (not a && c)) ≡ (not (a || b) && c)
-nor_later true true c = refl
-nor_later true false c = refl
-nor_later false true c = refl
-nor_later false false c = refl
-
-has-with_references : (table : List Reference) (row : Row) (mentions : List Mention) (mention : Mention) → has (with_references table row mentions) mention ≡ (any_marks table row mention || has mentions mention)
-has-with_references [] row mentions mention = refl
-has-with_references (reference ∷ table) row mentions mention =
-    has-with_references table row (with_topic row.key mentions (topic_by reference row)) mention
-    ∙ (ap (λ (b : Bool). any_marks table row mention || b) (has-with_topic row (topic_by reference row) mentions mention)
-    ∙ or_later (marks row (topic_by reference row) mention) (any_marks table row mention) (has mentions mention))
-
-has-without_references : (table : List Reference) (row : Row) (mentions : List Mention) (mention : Mention) → Ascends mention_cmp itself mentions → has (without_references table row mentions) mention ≡ (not (any_marks table row mention) && has mentions mention)
-has-without_references [] row mentions mention up = refl
-has-without_references (reference ∷ table) row mentions mention up =
-    has-without_references table row (without_topic row.key mentions (topic_by reference row)) mention (sorted-without_topic row (topic_by reference row) mentions up)
-    ∙ (ap (λ (b : Bool). not (any_marks table row mention) && b) (has-without_topic row (topic_by reference row) mentions mention up)
-    ∙ nor_later (marks row (topic_by reference row) mention) (any_marks table row mention) (has mentions mention))
-
-sorted-with_references : (table : List Reference) (row : Row) (mentions : List Mention) → Ascends mention_cmp itself mentions → Ascends mention_cmp itself (with_references table row mentions)
-sorted-with_references [] row mentions up = up
-sorted-with_references (reference ∷ table) row mentions up = sorted-with_references table row (with_topic row.key mentions (topic_by reference row)) (sorted-with_topic row (topic_by reference row) mentions up)
-
-sorted-without_references : (table : List Reference) (row : Row) (mentions : List Mention) → Ascends mention_cmp itself mentions → Ascends mention_cmp itself (without_references table row mentions)
-sorted-without_references [] row mentions up = up
-sorted-without_references (reference ∷ table) row mentions up = sorted-without_references table row (without_topic row.key mentions (topic_by reference row)) (sorted-without_topic row (topic_by reference row) mentions up)
-
 -- ---- the mentions of a row
 
 abbrev pub row_marks : Row → Mention → Bool
 row_marks row mention = marks row (print_topic row) mention || any_marks REFERENCES row mention
-
-has-with_row : (row : Row) (mentions : List Mention) (mention : Mention) → has (with_row row mentions) mention ≡ (row_marks row mention || has mentions mention)
-unfolding with_row
-has-with_row row mentions mention =
-    has-with_topic row (print_topic row) (with_references REFERENCES row mentions) mention
-    ∙ (ap (λ (b : Bool). marks row (print_topic row) mention || b) (has-with_references REFERENCES row mentions mention)
-    ∙ assoc (marks row (print_topic row) mention) (any_marks REFERENCES row mention) (has mentions mention))
-  where
-    assoc : (a b c : Bool) → (a || (b || c)) ≡ ((a || b) || c)
-    assoc true b c = refl
-    assoc false b c = refl
-
-has-without_row : (row : Row) (mentions : List Mention) (mention : Mention) → Ascends mention_cmp itself mentions → has (without_row row mentions) mention ≡ (not (row_marks row mention) && has mentions mention)
-unfolding without_row
-has-without_row row mentions mention up =
-    has-without_topic row (print_topic row) (without_references REFERENCES row mentions) mention (sorted-without_references REFERENCES row mentions up)
-    ∙ (ap (λ (b : Bool). not (marks row (print_topic row) mention) && b) (has-without_references REFERENCES row mentions mention up)
-    ∙ assoc (marks row (print_topic row) mention) (any_marks REFERENCES row mention) (has mentions mention))
-  where
-    assoc : (a b c : Bool) → (not a && (not b && c)) ≡ (not (a || b) && c)
-    assoc true b c = refl
-    assoc false b c = refl
-
-sorted-with_row : (row : Row) (mentions : List Mention) → Ascends mention_cmp itself mentions → Ascends mention_cmp itself (with_row row mentions)
-unfolding with_row
-sorted-with_row row mentions up = sorted-with_topic row (print_topic row) (with_references REFERENCES row mentions) (sorted-with_references REFERENCES row mentions up)
-
-sorted-without_row : (row : Row) (mentions : List Mention) → Ascends mention_cmp itself mentions → Ascends mention_cmp itself (without_row row mentions)
-unfolding without_row
-sorted-without_row row mentions up = sorted-without_topic row (print_topic row) (without_references REFERENCES row mentions) (sorted-without_references REFERENCES row mentions up)
 
 -- ---- they are those of its topics
 
@@ -248,8 +154,6 @@ row_marks_topics row (T.HasPrint print) key =
     (λ i. print_marks row (print_of row) print key i || any_marks_no_print REFERENCES row print key i)
     ∙ or_false (is_eq (key_cmp row.key key) && is_id (print_of row) print)
 
--- ---- a row goes, a row comes
-
 -- the row that is found has the key
 pub found_key : (rows : List Row) (key : Key) (row : Row) → row_at rows key ≡ Some row → row.key ≡ key
 found_key [] key row e = absurd (cc)
@@ -262,60 +166,3 @@ found_key (x ∷ rows) key row e = by (found_key rows key row) (key_cmp x.key ke
     by more Less f = more (sym (rw f refl) ∙ e)
     by more Equal f = let same : x ≡ row = some_is x (sym (rw f refl) ∙ e) in ap row_key (sym same) ∙ key_is x.key key f
     by more Greater f = more (sym (rw f refl) ∙ e)
-
-not_itself : (b : Bool) → (not b && b) ≡ false
-not_itself true = refl
-not_itself false = refl
-
--- without the mentions of the row at a key, nothing is mentioned there, and all else is
-has-forgotten : (rows : List Row) (mentions : List Mention) (key : Key) (mention : Mention) → AreMentioned rows mentions
-    → has (without_found (row_at rows key) mentions) mention ≡ (if is_eq (key_cmp key mention.key) then false else has mentions mention)
-has-forgotten rows mentions key mention are = by (row_at rows key) refl (is_eq (key_cmp key mention.key)) refl
-  where
-    here : (found : Option Row) → row_at rows key ≡ found → is_eq (key_cmp key mention.key) ≡ true → has mentions mention ≡ is_found found mention.topic
-    here found e same = are.fit mention ∙ ap (λ (f : Option Row). is_found f mention.topic) (ap (row_at rows) (sym (key_is key mention.key (is_equal _ same))) ∙ e)
-
-    own : (old : Row) → row_at rows key ≡ Some old → (b : Bool) → is_eq (key_cmp key mention.key) ≡ b → is_eq (key_cmp old.key mention.key) ≡ b
-    own old e b same = ap (λ (k : Key). is_eq (key_cmp k mention.key)) (found_key rows key old e) ∙ same
-
-    left : (old : Row) → has (without_row old mentions) mention ≡ (not (is_eq (key_cmp old.key mention.key) && has_topic old mention.topic) && has mentions mention)
-    left old = has-without_row old mentions mention are.sorted ∙ ap (λ (b : Bool). not b && has mentions mention) (row_marks_topics old mention.topic mention.key)
-
-    by : (found : Option Row) → row_at rows key ≡ found → (b : Bool) → is_eq (key_cmp key mention.key) ≡ b → has (without_found found mentions) mention ≡ (if b then false else has mentions mention)
-    by None e true same = here None e same
-    by None e false same = refl
-    by (Some old) e true same =
-        left old ∙ ((λ i. not (own old e true same i && has_topic old mention.topic) && here (Some old) e same i) ∙ not_itself (has_topic old mention.topic))
-    by (Some old) e false same = left old ∙ ap (λ (b : Bool). not (b && has_topic old mention.topic) && has mentions mention) (own old e false same)
-
-sorted-forgotten : (found : Option Row) (mentions : List Mention) → Ascends mention_cmp itself mentions → Ascends mention_cmp itself (without_found found mentions)
-sorted-forgotten None mentions up = up
-sorted-forgotten (Some old) mentions up = sorted-without_row old mentions up
-
--- rows without the one at a key
-pub mentioned_without : (rows : List Row) (mentions : List Mention) (key : Key) → AreMentioned rows mentions → AreMentioned (without key_cmp row_key rows key) (without_found (row_at rows key) mentions)
-mentioned_without rows mentions key are = record {
-  order = ascends_without key_cmp row_key key_cmp_total rows key are.order;
-  sorted = sorted-forgotten (row_at rows key) mentions are.sorted;
-  fit = λ mention. has-forgotten rows mentions key mention are ∙ (by (is_eq (key_cmp key mention.key)) mention
-      ∙ sym (ap (λ (f : Option Row). is_found f mention.topic) (find_without key_cmp row_key key_cmp_total rows key mention.key are.order)));
-}
-  where
-    by : (b : Bool) (mention : Mention) → (if b then false else has mentions mention) ≡ is_found (if b then None else row_at rows mention.key) mention.topic
-    by true mention = refl
-    by false mention = are.fit mention
-
--- rows with a row at its key
-pub mentioned_put : (rows : List Row) (mentions : List Mention) (row : Row) → AreMentioned rows mentions → AreMentioned (put key_cmp row_key rows row) (with_row row (without_found (row_at rows row.key) mentions))
-mentioned_put rows mentions row are = record {
-  order = ascends_put key_cmp row_key key_cmp_total rows row are.order;
-  sorted = sorted-with_row row (without_found (row_at rows row.key) mentions) (sorted-forgotten (row_at rows row.key) mentions are.sorted);
-  fit = λ mention. has-with_row row (without_found (row_at rows row.key) mentions) mention
-      ∙ ((λ i. row_marks_topics row mention.topic mention.key i || has-forgotten rows mentions row.key mention are i)
-      ∙ (by (is_eq (key_cmp row.key mention.key)) mention
-      ∙ sym (ap (λ (f : Option Row). is_found f mention.topic) (find_put key_cmp row_key key_cmp_total rows row mention.key))));
-}
-  where
-    by : (b : Bool) (mention : Mention) → ((b && has_topic row mention.topic) || (if b then false else has mentions mention)) ≡ is_found (if b then Some row else row_at rows mention.key) mention.topic
-    by true mention = or_false (has_topic row mention.topic)
-    by false mention = are.fit mention

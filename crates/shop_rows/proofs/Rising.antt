@@ -1,4 +1,4 @@
--- Along rows and mentions in order, the places that searches look for rise.
+-- Along rows, keys and mentions in order, the places that searches look for rise.
 use Rattle.std.proofs.Common.{◌≡◌, ℕ, ◌<◌, ◌≤◌, false, List, [], get_or, refl, sym, ap, ◌∙◌, inl, inr, ◌⊎◌, arith}
 use Rattle.std.specs.declared.cmp.Ordering.{Ordering}
 use Rattle.std.specs.declared.cmp.Ordering.TheVariants.{Less, Equal, Greater}
@@ -20,8 +20,7 @@ use Rattle.shop_rows.specs.declared.topic.Topic.{Topic}
 use Rattle.shop_rows.specs.declared.topic.Mention.{Mention}
 use Rattle.shop_rows.specs.Topics.{topic_cmp, mention_cmp}
 use Rattle.shop_rows.specs.TopicOrder.{topic_cmp_total}
-use Rattle.shop_rows.specs.Mentions.{itself}
-use Rattle.shop_rows.specs.Searches.{from_key, from_entity, from_live_id, from_topic, from_topic_of}
+use Rattle.shop_rows.specs.Searches.{from_key, from_entity, from_entity_of, from_live_id, from_topic, from_topic_of, lowest}
 
 module _ {X : Type 0} (before : X → X → Ordering) (order : IsTotalOrder before) (place : X) where
   -- what isn't above another stands no higher, seen from any place
@@ -84,24 +83,31 @@ entities_rise rows entity order =
     rises_along (λ (a b : Row). nat_cmp (entity_number a.key.entity) (entity_number b.key.entity)) (on_total (λ (row : Row). entity_number row.key.entity) nat_cmp_total)
     (row_with (record { entity = entity; version = 0; id = 0; second = 0 })) key_cmp row_key rows order (λ a b e. front_of_two _ _ e)
 
-pub live_ids_rise : (rows : List Row) (entity : Entity) (id : ℕ) → IsInKeyOrder rows → IsNonDecreasingBy (λ row. ordering_index (from_live_id entity id row)) rows
-live_ids_rise rows entity id order =
-    rises_along (λ (a b : Row). ordering_then (nat_cmp (entity_number a.key.entity) (entity_number b.key.entity)) (ordering_then (nat_cmp a.key.version b.key.version) (nat_cmp a.key.id b.key.id)))
-    (then_total (on_total (λ (row : Row). entity_number row.key.entity) nat_cmp_total) (then_total (on_total (λ (row : Row). row.key.version) nat_cmp_total) (on_total (λ (row : Row). row.key.id) nat_cmp_total)))
-    (row_with (record { entity = entity; version = 0; id = id; second = 0 })) key_cmp row_key rows order (λ a b e. front_of_four (nat_cmp (entity_number a.key.entity) (entity_number b.key.entity)) (nat_cmp a.key.version b.key.version) (nat_cmp a.key.id b.key.id) (nat_cmp a.key.second b.key.second) e)
+-- ---- keys: a place isn't seen to fall
+
+pub entity_of_mono : (entity : Entity) (version : ℕ) (a b : Key) → key_cmp a b ≡ Less → ordering_index (from_entity_of entity version a) ≤ ordering_index (from_entity_of entity version b)
+entity_of_mono entity version a b less =
+    seen_from (λ (a b : Key). ordering_then (nat_cmp (entity_number a.entity) (entity_number b.entity)) (nat_cmp a.version b.version))
+    (then_total (on_total (λ (key : Key). entity_number key.entity) nat_cmp_total) (on_total (λ (key : Key). key.version) nat_cmp_total))
+    (record { entity = entity; version = version; id = 0; second = 0 }) a b _ _ refl refl
+    (front_of_three (nat_cmp (entity_number a.entity) (entity_number b.entity)) (nat_cmp a.version b.version) (ordering_then (nat_cmp a.id b.id) (nat_cmp a.second b.second)) less)
+
+pub live_id_mono : (entity : Entity) (id : ℕ) (a b : Key) → key_cmp a b ≡ Less → ordering_index (from_live_id entity id a) ≤ ordering_index (from_live_id entity id b)
+live_id_mono entity id a b less =
+    seen_from (λ (a b : Key). ordering_then (nat_cmp (entity_number a.entity) (entity_number b.entity)) (ordering_then (nat_cmp a.version b.version) (nat_cmp a.id b.id)))
+    (then_total (on_total (λ (key : Key). entity_number key.entity) nat_cmp_total) (then_total (on_total (λ (key : Key). key.version) nat_cmp_total) (on_total (λ (key : Key). key.id) nat_cmp_total)))
+    (record { entity = entity; version = 0; id = id; second = 0 }) a b _ _ refl refl
+    (front_of_four (nat_cmp (entity_number a.entity) (entity_number b.entity)) (nat_cmp a.version b.version) (nat_cmp a.id b.id) (nat_cmp a.second b.second) less)
 
 -- ---- mentions
 
-abbrev mention_with : Topic → Entity → Mention
-mention_with topic entity = record { topic = topic; key = record { entity = entity; version = 0; id = 0; second = 0 } }
+pub topic_mono : (topic : Topic) (a b : Mention) → mention_cmp a b ≡ Less → ordering_index (from_topic topic a) ≤ ordering_index (from_topic topic b)
+topic_mono topic a b less =
+    seen_from (λ (a b : Mention). topic_cmp a.topic b.topic) (on_total (λ (mention : Mention). mention.topic) topic_cmp_total) (lowest topic E.Language) a b _ _ refl refl (front_of_two _ _ less)
 
-pub topics_rise : (mentions : List Mention) (topic : Topic) → Ascends mention_cmp itself mentions → IsNonDecreasingBy (λ mention. ordering_index (from_topic topic mention)) mentions
-topics_rise mentions topic order =
-    rises_along (λ (a b : Mention). topic_cmp a.topic b.topic) (on_total (λ (mention : Mention). mention.topic) topic_cmp_total)
-    (mention_with topic E.Language) mention_cmp itself mentions order (λ a b e. front_of_two _ _ e)
-
-pub topics_of_rise : (mentions : List Mention) (topic : Topic) (entity : Entity) → Ascends mention_cmp itself mentions → IsNonDecreasingBy (λ mention. ordering_index (from_topic_of topic entity mention)) mentions
-topics_of_rise mentions topic entity order =
-    rises_along (λ (a b : Mention). ordering_then (topic_cmp a.topic b.topic) (nat_cmp (entity_number a.key.entity) (entity_number b.key.entity)))
+pub topic_of_mono : (topic : Topic) (entity : Entity) (a b : Mention) → mention_cmp a b ≡ Less → ordering_index (from_topic_of topic entity a) ≤ ordering_index (from_topic_of topic entity b)
+topic_of_mono topic entity a b less =
+    seen_from (λ (a b : Mention). ordering_then (topic_cmp a.topic b.topic) (nat_cmp (entity_number a.key.entity) (entity_number b.key.entity)))
     (then_total (on_total (λ (mention : Mention). mention.topic) topic_cmp_total) (on_total (λ (mention : Mention). entity_number mention.key.entity) nat_cmp_total))
-    (mention_with topic entity) mention_cmp itself mentions order (λ a b e. front_of_three (topic_cmp a.topic b.topic) (nat_cmp (entity_number a.key.entity) (entity_number b.key.entity)) (ordering_then (nat_cmp a.key.version b.key.version) (ordering_then (nat_cmp a.key.id b.key.id) (nat_cmp a.key.second b.key.second))) e)
+    (lowest topic entity) a b _ _ refl refl
+    (front_of_three (topic_cmp a.topic b.topic) (nat_cmp (entity_number a.key.entity) (entity_number b.key.entity)) (ordering_then (nat_cmp a.key.version b.key.version) (ordering_then (nat_cmp a.key.id b.key.id) (nat_cmp a.key.second b.key.second))) less)

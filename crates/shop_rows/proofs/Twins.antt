@@ -15,7 +15,7 @@ use Rattle.shop_defs.proofs.EachLine.{same_entity}
 use Rattle.shop_operations.specs.Deletes.{stands_at}
 use Rattle.shop_operations.specs.References.{is_entity}
 use Rattle.shop_operations.specs.Upserts.{same_value, same_given, has_unique, agree_in_unique, is_twin}
-use Rattle.shop_rows.specs.Prints.{with_value, with_field, key_print, print_of}
+use Rattle.shop_rows.specs.Prints.{with_value, with_field, start_print, print_in, print_of}
 
 and_first : (a b : Bool) → (a && b) ≡ true → a ≡ true
 and_first true b e = refl
@@ -97,19 +97,19 @@ fields_shared (field ∷ fields) row other print e = by field.marks.unique refl 
 abbrev print_from : Entity → ℕ → Row → Option ℕ
 print_from entity start row = if has_unique entity then fold (with_field row) (Some start) (fields_of entity) else None
 
--- twins of one version share a fingerprint
-pub twins_share : (row other : Row) → other.key.version ≡ row.key.version → is_twin row other ≡ true → ShareAt (print_of row) (print_of other)
-unfolding is_twin print_of
-twins_share row other version twin =
+-- a twin has the fingerprint that the row has in the twin's version
+pub twins_share : (version : ℕ) (row other : Row) → other.key.version ≡ version → is_twin row other ≡ true → ShareAt (print_in version row) (print_of other)
+unfolding is_twin print_in
+twins_share version row other same_version twin =
     let parts = and_first (is_entity row.key.entity other.key.entity && not (stands_at row.key other) && has_unique row.key.entity) (agree_in_unique row.key.entity row other) twin in
     let agree : agree_in_unique row.key.entity row other ≡ true = and_second (is_entity row.key.entity other.key.entity && not (stands_at row.key other) && has_unique row.key.entity) (agree_in_unique row.key.entity row other) twin in
     let unique : has_unique row.key.entity ≡ true = and_second (is_entity row.key.entity other.key.entity && not (stands_at row.key other)) (has_unique row.key.entity) parts in
     let entities : is_entity row.key.entity other.key.entity ≡ true = and_first (is_entity row.key.entity other.key.entity) (not (stands_at row.key other)) (and_first (is_entity row.key.entity other.key.entity && not (stands_at row.key other)) (has_unique row.key.entity) parts) in
     let same : row.key.entity ≡ other.key.entity = same_entity row.key.entity other.key.entity (eqb-true _ _ entities) in
-    let start : key_print other.key ≡ key_print row.key = λ i. key_print (record other.key { entity = sym same i; version = version i }) in
-    let share = fields_shared (fields_of row.key.entity) row other (key_print row.key) agree in
+    let start : start_print other.key.entity other.key.version ≡ start_print row.key.entity version = λ i. start_print (sym same i) (same_version i) in
+    let share = fields_shared (fields_of row.key.entity) row other (start_print row.key.entity version) agree in
     record {
       print = share.print;
-      first = ap (λ (b : Bool). if b then fold (with_field row) (Some (key_print row.key)) (fields_of row.key.entity) else None) unique ∙ share.first;
-      second = (λ i. print_from (sym same i) (start i) other) ∙ (ap (λ (b : Bool). if b then fold (with_field other) (Some (key_print row.key)) (fields_of row.key.entity) else None) unique ∙ share.second);
+      first = ap (λ (b : Bool). if b then fold (with_field row) (Some (start_print row.key.entity version)) (fields_of row.key.entity) else None) unique ∙ share.first;
+      second = (λ i. print_from (sym same i) (start i) other) ∙ (ap (λ (b : Bool). if b then fold (with_field other) (Some (start_print row.key.entity version)) (fields_of row.key.entity) else None) unique ∙ share.second);
     }

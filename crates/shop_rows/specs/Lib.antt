@@ -1,4 +1,5 @@
 pub mod Changing
+pub mod Held
 pub mod Lookups
 pub mod Owners
 pub mod Prints
@@ -6,3 +7,7 @@ pub mod Topics
 pub mod TopicOrder
 pub mod Mentions
 pub mod Searches
+pub mod Fronts
+pub mod Counting
+pub mod Paging
+pub mod Ready

@@ -1,15 +1,16 @@
 -- What is kept of rows beside them, so that they are found by topic. No public contract cites this.
 use Rattle.std.specs.Prelude.{◌≡◌, Bool, true, false, ◌&&◌, List, [], ◌∷◌, ◌++◌, Option, Some, None, is_some, if◌then◌else◌}
-use Rattle.std.specs.List.{fold, filter_map, flat_map, list_all}
+use Rattle.std.specs.List.{filter_map, flat_map, list_all, list_any}
 use Rattle.std.specs.Ordering.{is_eq}
 use Rattle.std.specs.Option.{option_map}
-use Rattle.keyed.specs.Keyed.{Ascends, find, put, without}
+use Rattle.keyed.specs.Keyed.{Ascends, find}
 use Rattle.shop_defs.specs.declared.key.Key.{Key}
 use Rattle.shop_defs.specs.declared.row.Row.{Row}
 use Rattle.shop_defs.specs.declared.table.Reference.{Reference}
 use Rattle.shop_defs.specs.declared.table.TheConstants.{REFERENCES}
 use Rattle.shop_defs.specs.References.{acts_on_delete}
 use Rattle.shop_defs.specs.Rows.{IsInKeyOrder, row_at}
+use Rattle.shop_defs.specs.Joined.{Change}
 use Rattle.shop_operations.specs.References.{named}
 use Rattle.shop_rows.specs.declared.topic.Topic.{Topic}
 use Rattle.shop_rows.specs.declared.topic.Topic.TheVariants as T
@@ -19,6 +20,10 @@ use Rattle.shop_rows.specs.Topics.{has_topic, topic_cmp, mention_cmp}
 
 abbrev pub itself : Mention → Mention
 itself mention = mention
+
+-- the mention is one of these, in any order
+abbrev pub among : List Mention → Mention → Bool
+among mentions mention = list_any (λ other. is_eq (mention_cmp other mention)) mentions
 
 -- the mention is among these
 abbrev pub has : List Mention → Mention → Bool
@@ -45,35 +50,6 @@ topic_by reference row = if acts_on_delete reference then option_map (λ id. T.R
 abbrev pub print_topic : Row → Option Topic
 print_topic row = option_map (λ print. T.HasPrint print) (print_of row)
 
--- the mentions with that of the row with the key by the topic, if there is one
-abbrev pub with_topic : Key → List Mention → Option Topic → List Mention
-with_topic key mentions None = mentions
-with_topic key mentions (Some topic) = put mention_cmp itself mentions (record { topic = topic; key = key })
-
-abbrev pub without_topic : Key → List Mention → Option Topic → List Mention
-without_topic key mentions None = mentions
-without_topic key mentions (Some topic) = without mention_cmp itself mentions (record { topic = topic; key = key })
-
--- the mentions with those of the row by the references
-abbrev pub with_references : List Reference → Row → List Mention → List Mention
-with_references table row mentions = fold (λ all reference. with_topic row.key all (topic_by reference row)) mentions table
-
-abbrev pub without_references : List Reference → Row → List Mention → List Mention
-without_references table row mentions = fold (λ all reference. without_topic row.key all (topic_by reference row)) mentions table
-
--- the mentions with those of the row
-unfoldable pub with_row : Row → List Mention → List Mention
-with_row row mentions = with_topic row.key (with_references REFERENCES row mentions) (print_topic row)
-
--- the mentions without those of the row
-unfoldable pub without_row : Row → List Mention → List Mention
-without_row row mentions = without_topic row.key (without_references REFERENCES row mentions) (print_topic row)
-
--- the mentions without those of the row, if there is one
-abbrev pub without_found : Option Row → List Mention → List Mention
-without_found None mentions = mentions
-without_found (Some row) mentions = without_row row mentions
-
 -- both are the same topic, or neither is there
 abbrev pub same_topic : Option Topic → Option Topic → Bool
 same_topic None None = true
@@ -84,10 +60,10 @@ same_topic a b = false
 abbrev pub have_same_topics : Row → Row → Bool
 have_same_topics row other = same_topic (print_topic row) (print_topic other) && list_all (λ reference. same_topic (topic_by reference row) (topic_by reference other)) REFERENCES
 
--- there is a row, and it is found by the same topics as the other
-abbrev pub is_found_alike : Option Row → Row → Bool
-is_found_alike None other = false
-is_found_alike (Some row) other = have_same_topics row other
+-- both rows are there and found by the same topics
+abbrev pub are_alike : Option Row → Option Row → Bool
+are_alike (Some row) (Some other) = have_same_topics row other
+are_alike a b = false
 
 -- ---- the rows that mentions are of
 
@@ -107,3 +83,25 @@ reference_mentions table row = flat_map (λ reference. topic_mentions row.key (t
 -- the mentions of a row
 unfoldable pub row_mentions : Row → List Mention
 row_mentions row = reference_mentions REFERENCES row ++ topic_mentions row.key (print_topic row)
+
+-- ---- what changes move
+
+-- the mentions of a row, if there is one
+abbrev pub found_mentions : Option Row → List Mention
+found_mentions None = []
+found_mentions (Some row) = row_mentions row
+
+-- the mentions that go where a row stands in place of another or of none, or none in place of one
+abbrev pub gone_by : Option Row → Option Row → List Mention
+gone_by old new = if are_alike old new then [] else found_mentions old
+
+-- and those that come
+abbrev pub come_by : Option Row → Option Row → List Mention
+come_by old new = if are_alike old new then [] else found_mentions new
+
+-- the same by a change of rows
+abbrev pub gone_at : List Row → Change → List Mention
+gone_at rows change = gone_by (row_at rows change.0) change.1
+
+abbrev pub come_at : List Row → Change → List Mention
+come_at rows change = come_by (row_at rows change.0) change.1

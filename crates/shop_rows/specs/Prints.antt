@@ -2,7 +2,7 @@
 use Rattle.std.specs.Prelude.{ℕ, ◌*◌, ◌%◌, ◌^◌, List, [], ◌∷◌, Option, Some, None, if◌then◌else◌, bit_xor}
 use Rattle.std.specs.List.{fold}
 use Rattle.std.specs.Int.{w64, w128, cast_unsigned, to_be_bytes}
-use Rattle.shop_defs.specs.declared.key.Key.{Key}
+use Rattle.shop_defs.specs.declared.entity.Entity.{Entity}
 use Rattle.shop_defs.specs.declared.row.Row.{Row}
 use Rattle.shop_defs.specs.declared.table.FieldInfo.{FieldInfo}
 use Rattle.shop_defs.specs.declared.value.Value.{Value}
@@ -38,10 +38,14 @@ abbrev pub with_field : Row → Option ℕ → FieldInfo → Option ℕ
 with_field row None field = None
 with_field row (Some print) field = if field.marks.unique then with_value print (field_of row field.number) else Some print
 
--- the fingerprint of the entity and the version of a key
-abbrev pub key_print : Key → ℕ
-key_print key = with_bytes (with_byte FIRST_PRINT (entity_number key.entity)) (to_be_bytes w128 key.version)
+-- the fingerprint of an entity and a version
+abbrev pub start_print : Entity → ℕ → ℕ
+start_print entity version = with_bytes (with_byte FIRST_PRINT (entity_number entity)) (to_be_bytes w128 version)
 
--- the fingerprint of the row's entity, its version and its unique fields: none where one of them is null, or none is unique
-unfoldable pub print_of : Row → Option ℕ
-print_of row = if has_unique row.key.entity then fold (with_field row) (Some (key_print row.key)) (fields_of row.key.entity) else None
+-- the fingerprint of the row's entity, a version and the row's unique fields: none where one of them is null, or none is unique
+unfoldable pub print_in : ℕ → Row → Option ℕ
+print_in version row = if has_unique row.key.entity then fold (with_field row) (Some (start_print row.key.entity version)) (fields_of row.key.entity) else None
+
+-- the same with the row's own version
+abbrev pub print_of : Row → Option ℕ
+print_of row = print_in row.key.version row

@@ -27,9 +27,17 @@ from_key key row = key_cmp row.key key
 abbrev pub from_entity : Entity → Row → Ordering
 from_entity entity row = nat_cmp (entity_number row.key.entity) (entity_number entity)
 
--- where the row stands, seen from the live rows of an entity with an id
-abbrev pub from_live_id : Entity → ℕ → Row → Ordering
-from_live_id entity id row = ordering_then (nat_cmp (entity_number row.key.entity) (entity_number entity)) (ordering_then (nat_cmp row.key.version 0) (nat_cmp row.key.id id))
+-- where a key stands, seen from those of an entity and a version
+abbrev pub from_entity_of : Entity → ℕ → Key → Ordering
+from_entity_of entity version key = ordering_then (nat_cmp (entity_number key.entity) (entity_number entity)) (nat_cmp key.version version)
+
+-- where a key stands, seen from those of the live rows of an entity with an id
+abbrev pub from_live_id : Entity → ℕ → Key → Ordering
+from_live_id entity id key = ordering_then (nat_cmp (entity_number key.entity) (entity_number entity)) (ordering_then (nat_cmp key.version 0) (nat_cmp key.id id))
+
+-- the lowest mention of a topic by a row of the entity
+abbrev pub lowest : Topic → Entity → Mention
+lowest topic entity = record { topic = topic; key = record { entity = entity; version = 0; id = 0; second = 0 } }
 
 -- where the mention stands, seen from those of a topic
 abbrev pub from_topic : Topic → Mention → Ordering
@@ -55,9 +63,9 @@ abbrev pub passes : (Row → Bool) → Option Row → Bool
 passes test None = false
 passes test (Some row) = test row
 
--- the other is of the row's version, and has the same unique fields
-abbrev pub is_version_twin : Row → Row → Bool
-is_version_twin row other = (other.key.version == row.key.version) && is_twin row other
+-- the other is of the version, and has the row's unique fields
+abbrev pub is_version_twin : ℕ → Row → Row → Bool
+is_version_twin version row other = (other.key.version == version) && is_twin row other
 
 -- the row is live and belongs to the owner
 abbrev pub is_live_of : OwnerLimit → ℕ → Row → Bool

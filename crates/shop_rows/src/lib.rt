@@ -16,14 +16,20 @@
 //!   That no look-up walks over all rows is how they are written; no clause speaks of it.
 #![tactic(auto)]
 
-mod building;
+mod counts;
 mod finding;
+mod found;
 mod lookups;
 mod mentions;
+mod moves;
+mod pages;
+mod pairs;
 mod prints;
 mod rows;
-mod run;
 mod searches;
 mod topic;
+mod walk;
 
+pub use paged::Shape;
 pub use rows::Rows;
+pub use walk::Walk;

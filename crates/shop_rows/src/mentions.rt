@@ -1,44 +1,21 @@
-//! What is kept of rows beside them, so that they are found by topic.
-ghost use Rattle.std.specs.Prelude.{◌≡◌, ◌≤◌, ◌+◌, count_by};
+//! By which topics a row is found.
+ghost use Rattle.std.specs.Prelude.{◌≡◌};
 ghost use Rattle.std.specs.List.{list_all};
-ghost use Rattle.std.specs.Option.{option_map};
-ghost use Rattle.keyed.specs.Keyed.{put};
-ghost use Rattle.shop_defs.specs.Keys.{key_cmp};
-ghost use Rattle.shop_defs.specs.Rows.{row_at, row_key};
-ghost use Rattle.shop_operations.specs.References.{is_entity};
+ghost use Rattle.std.specs.Option.{option_copied, option_map};
 ghost use Rattle.shop_rows.specs.Mentions as spec;
 
-use crate::prints::print_of;
-use crate::topic::{Mention, Topic};
-use ordered::Ordered;
-use shop_defs::{Key, REFERENCES, Reference, Row};
+use crate::prints::print_in;
+use crate::topic::Topic;
+use shop_defs::{REFERENCES, Reference, Row};
 use shop_operations::named;
 
-/// How many topics a row is found by, at most: by three references, and by its unique fields.
-pub(crate) const MOST_TOPICS: usize = 4;
-
-/// Makes the mentions those of the rows with the row put at its key. They stay as they are where the
-/// row there is found by the same topics, as it mostly is: then nothing is moved.
-pub(crate) fn mention_put(rows: &Ordered<Row>, mentions: &mut Ordered<Mention>, row: &Row)
-    requires room { MOST_TOPICS ≤ mentions.old.spare }
-    requires mentioned { spec.AreMentioned rows.now.list mentions.old.list }
-    ensures mentioned { spec.AreMentioned (put key_cmp row_key rows.now.list row.now) mentions.new.list }
-    ensures spare { mentions.old.spare ≤ mentions.new.spare + MOST_TOPICS }
+/// Whether both rows are there and found by the same topics.
+pub(crate) fn are_alike(row: Option<&Row>, other: Option<&Row>) -> bool
+    ensures { result ≡ spec.are_alike (option_copied row.entry) (option_copied other.entry) }
 {
-    if is_found_alike(rows, row) {
-        return;
-    }
-    forget(rows, mentions, &row.key);
-    mention(mentions, row);
-}
-
-/// Whether there is a row at the row's key that is found by the same topics.
-fn is_found_alike(rows: &Ordered<Row>, row: &Row) -> bool
-    ensures { result ≡ spec.is_found_alike (row_at rows.now.list row.now.key) row.now }
-{
-    match rows.get(&row.key) {
-        Some(old) => have_same_topics(old, row),
-        None => false,
+    match (row, other) {
+        (Some(row), Some(other)) => have_same_topics(row, other),
+        _ => false,
     }
 }
 
@@ -61,79 +38,6 @@ fn same_topic(topic: Option<Topic>, other: Option<Topic>) -> bool
         (None, None) => true,
         (Some(topic), Some(other)) => topic == other,
         _ => false,
-    }
-}
-
-/// Adds the mentions of the row, for which there is room.
-#[tactic(auto, unfolding(crate::specs::Mentions::with_row), using(crate::proofs::FewTopics::few_references))]
-fn mention(mentions: &mut Ordered<Mention>, row: &Row)
-    requires { MOST_TOPICS ≤ mentions.old.spare }
-    ensures list { mentions.new.list ≡ spec.with_row row.now mentions.old.list }
-    ensures spare { mentions.old.spare ≤ mentions.new.spare + MOST_TOPICS }
-{
-    mention_references(&REFERENCES, mentions, row);
-    mention_topic(mentions, print_topic(row), &row.key);
-}
-
-/// Takes out the mentions of the row at the key, if there is one. It takes no room.
-pub(crate) fn forget(rows: &Ordered<Row>, mentions: &mut Ordered<Mention>, key: &Key)
-    ensures list { mentions.new.list ≡ spec.without_found (row_at rows.now.list key.now) mentions.old.list }
-    ensures spare { mentions.old.spare ≤ mentions.new.spare }
-{
-    match rows.get(key) {
-        Some(row) => unmention(mentions, row),
-        None => {}
-    }
-}
-
-#[tactic(auto, unfolding(crate::specs::Mentions::without_row))]
-fn unmention(mentions: &mut Ordered<Mention>, row: &Row)
-    ensures list { mentions.new.list ≡ spec.without_row row.now mentions.old.list }
-    ensures spare { mentions.old.spare ≤ mentions.new.spare }
-{
-    unmention_references(&REFERENCES, mentions, row);
-    unmention_topic(mentions, print_topic(row), &row.key);
-}
-
-fn mention_references(table: &[Reference], mentions: &mut Ordered<Mention>, row: &Row)
-    requires { count_by (λ reference. is_entity reference.entity row.now.key.entity) table.now ≤ mentions.old.spare }
-    ensures list { mentions.new.list ≡ spec.with_references table.now row.now mentions.old.list }
-    ensures spare { mentions.old.spare ≤ mentions.new.spare + count_by (λ reference. is_entity reference.entity row.now.key.entity) table.now }
-{
-    for reference in table {
-        if reference.entity == row.key.entity {
-            mention_topic(mentions, topic_by(reference, row), &row.key);
-        }
-    }
-}
-
-fn unmention_references(table: &[Reference], mentions: &mut Ordered<Mention>, row: &Row)
-    ensures list { mentions.new.list ≡ spec.without_references table.now row.now mentions.old.list }
-    ensures spare { mentions.old.spare ≤ mentions.new.spare }
-{
-    for reference in table {
-        unmention_topic(mentions, topic_by(reference, row), &row.key);
-    }
-}
-
-fn mention_topic(mentions: &mut Ordered<Mention>, topic: Option<Topic>, key: &Key)
-    requires { 1 ≤ mentions.old.spare }
-    ensures list { mentions.new.list ≡ spec.with_topic key.now mentions.old.list topic }
-    ensures spare { mentions.old.spare ≤ mentions.new.spare + 1 }
-{
-    match topic {
-        Some(topic) => mentions.put_in_room(Mention { topic, key: *key }),
-        None => {}
-    }
-}
-
-fn unmention_topic(mentions: &mut Ordered<Mention>, topic: Option<Topic>, key: &Key)
-    ensures list { mentions.new.list ≡ spec.without_topic key.now mentions.old.list topic }
-    ensures spare { mentions.old.spare ≤ mentions.new.spare }
-{
-    match topic {
-        Some(topic) => mentions.remove(&Mention { topic, key: *key }),
-        None => {}
     }
 }
 
@@ -164,7 +68,7 @@ fn referred(reference: &Reference, version: u128, named: Option<u128>) -> Option
 pub(crate) fn print_topic(row: &Row) -> Option<Topic>
     ensures { result ≡ spec.print_topic row.now }
 {
-    match print_of(row) {
+    match print_in(row.key.version, row) {
         Some(print) => Some(Topic::HasPrint(print)),
         None => None,
     }

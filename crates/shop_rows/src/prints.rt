@@ -4,7 +4,7 @@ ghost use Rattle.std.specs.List.{fold};
 ghost use Rattle.std.specs.Option.{option_copied};
 ghost use Rattle.shop_rows.specs.Prints as spec;
 
-use shop_defs::{FieldInfo, Key, Row, Value, fields_of};
+use shop_defs::{Entity, FieldInfo, Row, Value, fields_of};
 use shop_operations::has_unique;
 
 /// The fingerprint of no bytes, by FNV-1a in 64 bits.
@@ -13,24 +13,28 @@ const FIRST_PRINT: u64 = 0xcbf2_9ce4_8422_2325;
 /// What a fingerprint is multiplied by with each byte.
 const PRINT_FACTOR: u64 = 0x0000_0100_0000_01b3;
 
-/// The fingerprint of the row's entity, its version and its unique fields: `None` where one of them
-/// is null, and where the entity has no unique fields. Rows that are equal in all this have equal
-/// fingerprints.
-#[tactic(auto, unfolding(crate::specs::Prints::print_of))]
-pub(crate) fn print_of(row: &Row) -> Option<u64>
-    ensures { result ≡ spec.print_of row.now }
+/// The fingerprint of the row's entity, the version and the row's unique fields: `None` where one of
+/// them is null, and where the entity has no unique fields. Rows that are equal in all this have
+/// equal fingerprints.
+#[tactic(auto, unfolding(crate::specs::Prints::print_in))]
+pub(crate) fn print_in(version: u128, row: &Row) -> Option<u64>
+    ensures { result ≡ spec.print_in version row.now }
 {
     if has_unique(row.key.entity) {
-        return with_fields(key_print(&row.key), fields_of(row.key.entity), row);
+        return with_fields(
+            start_print(row.key.entity, version),
+            fields_of(row.key.entity),
+            row,
+        );
     }
     None
 }
 
-fn key_print(key: &Key) -> u64
-    ensures { result ≡ spec.key_print key.now }
+fn start_print(entity: Entity, version: u128) -> u64
+    ensures { result ≡ spec.start_print entity version }
 {
-    let print = with_byte(FIRST_PRINT, key.entity.number());
-    let version = key.version.to_be_bytes();
+    let print = with_byte(FIRST_PRINT, entity.number());
+    let version = version.to_be_bytes();
     with_bytes(print, &version)
 }
 

@@ -1,45 +1,55 @@
 //! Rows in the order of their keys, looked up by key and changed by deltas.
-ghost use Rattle.std.specs.Prelude.{◌≡◌, ◌≤◌, ◌+◌, ◌*◌, ◌↔◌, [], length, IsTrue, IfOk, OnOk};
+ghost use Rattle.std.specs.Prelude.{◌≡◌, ◌<◌, ◌^◌, ◌↔◌, [], Some, None, length, map, filter, IsTrue, IfOk, OnOk, OnErr};
 ghost use Rattle.std.specs.Option.{option_copied};
-ghost use Rattle.keyed.specs.Keyed.{put, without};
+ghost use Rattle.std.specs.Ordering.{is_gt};
+ghost use Rattle.paged.specs.Sizes.{Tells};
+ghost use Rattle.paged.specs.Paged.{all_pairs, IsPaged};
 ghost use Rattle.shop_defs.specs.Keys.{key_cmp};
-ghost use Rattle.shop_defs.specs.Rows.{row_at, row_key, change_row, change_rows, IsInKeyOrder};
+ghost use Rattle.shop_defs.specs.Rows.{row_at, change_rows, IsInKeyOrder};
 ghost use Rattle.shop_defs.specs.Joined.{last_in, change_at};
 ghost use Rattle.shop_rows.specs.Changing.{row_after, StandUnderTheirKeys, HasAscendingKeys};
-ghost use Rattle.shop_rows.specs.Mentions.{AreMentioned};
+ghost use Rattle.shop_rows.specs.Lookups.{IsShapeOf};
+ghost use Rattle.shop_rows.specs.Paging as spec;
 
-use crate::building::mentions_of;
-use crate::mentions::{MOST_TOPICS, forget, mention_put};
-use crate::topic::Mention;
-use ordered::Ordered;
-use shop_defs::{Copied, Delta, Key, List, Look, NoMemory, Row};
+use crate::pages::{Change, Pages, putting, settled_changes, shared_changes};
+use crate::walk::Walk;
+use paged::Shape;
+use shop_defs::{Delta, Key, Look, NoMemory, Row};
 use std::alloc::Global;
 use std::marker::Model;
 
 /// The rows of a shop in the order of their keys, each key once.
 ///
-/// Contracts see the list of the rows, and the spare room: how many changes can be made without
-/// memory being taken. A look-up costs the logarithm of the number of rows and what it finds, and a
-/// change moves the rows behind its place. Beside the rows stand what they are found by: what they
-/// refer to, and the fingerprints of their unique fields.
+/// Contracts see the list of the rows, and the delta that can be applied without memory, if there is
+/// one. The rows stand in pages, and so does what they are found by: what they refer to, and the
+/// hashes of their unique fields. A look-up costs the logarithm of the number of rows and what it
+/// finds; a change makes the pages anew that it touches, and copies share the others.
 #[derive(Drop)]
 pub struct Rows {
-    pub(crate) rows: Ordered<Row>,
-    pub(crate) mentions: Ordered<Mention>,
+    alloc: Global,
+    pub(crate) pages: Pages,
+    aside: Option<Aside>,
+}
+
+/// The rows after a delta, made ready aside.
+#[derive(Drop)]
+pub(crate) struct Aside {
+    changes: Vec<Change>,
+    next: Pages,
 }
 
 impl Model for Rows {
-    ghost use Rattle.std.specs.Prelude.{◌/◌, min};
-    ghost use Rattle.ordered.specs.Held.{Held, held_code};
-    ghost use Rattle.shop_defs.specs.declared.row.Row.{Row};
-    ghost use Rattle.shop_rows.specs.Mentions.{AreMentioned};
-    ghost use Rattle.shop_rows.specs.declared.mentions.TheConstants.{MOST_TOPICS};
+    ghost use Rattle.std.specs.Prelude.{map};
+    ghost use Rattle.std.specs.Option.{option_map};
+    ghost use Rattle.shop_rows.specs.Held.{Held};
+    ghost use Rattle.shop_rows.specs.Paging.{rows_in, read_change, AreFound};
+    ghost use Rattle.shop_rows.specs.Ready.{AreReady};
 
-    ghost Value = { Held Row };
+    ghost Value = { Held };
 
-    ghost view = { λ r. record { list = r.rows.list; spare = min r.rows.spare (r.mentions.spare / MOST_TOPICS) } };
+    ghost view = { λ r. record { list = rows_in r.pages.rows; spare = option_map (λ aside. record { changes = map read_change aside.changes.items }) r.aside } };
 
-    ghost invariant = { λ r. AreMentioned r.rows.list r.mentions.list };
+    ghost invariant = { λ r. AreFound r.pages.rows r.pages.mentions r.pages.counts × AreReady (rows_in r.pages.rows) r.aside };
 }
 
 impl Rows {
@@ -48,8 +58,9 @@ impl Rows {
         ensures { result.list ≡ [] }
     {
         Rows {
-            rows: Ordered::new(alloc),
-            mentions: Ordered::new(alloc),
+            alloc,
+            pages: Pages::empty(alloc),
+            aside: None,
         }
     }
 
@@ -58,175 +69,115 @@ impl Rows {
         requires { IsInKeyOrder rows.items }
         ensures { IfOk result (λ found. found.list ≡ rows.items) }
     {
-        let mentions = mentions_of(alloc, rows.as_slice())?;
+        let changes = putting(alloc, rows)?;
+        let pages = Pages::empty(alloc).changed(alloc, changes.as_slice())?;
         Ok(Rows {
-            rows: Ordered::from_ascending(rows),
-            mentions: Ordered::from_ascending(mentions),
+            alloc,
+            pages,
+            aside: None,
         })
     }
 
     /// The row with that key: `None` exactly where no row has it. It takes no memory.
     pub fn get<'a>(&'a self, key: &Key) -> Option<&'a Row>
-        ensures { option_copied result ≡ row_at self.now.list key.now }
+        ensures { option_copied result ≡ row_at self.entry.now.list key.now }
     {
-        self.rows.get(key)
+        self.pages.get(key)
     }
 
-    /// The rows in the order of their keys, each key once.
-    pub fn as_slice(&self) -> &[Row]
-        ensures rows { result.now ≡ self.now.list }
+    /// A walk over the rows in the order of their keys, each key once. It takes no memory.
+    pub fn iter(&self) -> Walk<'_>
+        ensures rows { result ≡ self.now.list }
         ensures order { IsInKeyOrder self.now.list }
     {
-        self.rows.as_slice()
+        Walk::over(self.pages.rows.runs())
     }
 
-    /// The rows in the order of their keys, each key once. It takes no memory.
-    pub fn into_rows(self) -> List<Row>
-        ensures rows { result ≡ self.list }
-        ensures order { IsInKeyOrder result }
-    {
-        let Rows { rows, mentions: _ } = self;
-        List::from_vec(rows.into_vec())
-    }
-
-    /// How many rows there are.
+    /// How many rows there are, fewer than 2^63. It takes no memory.
     pub fn len(&self) -> usize
-        ensures { result ≡ length self.now.list }
+        ensures count { result ≡ length self.now.list }
+        ensures few { result < 2 ^ 63 }
+        ensures order { IsInKeyOrder self.now.list }
     {
-        self.rows.as_slice().len()
+        self.pages.counts.all
     }
 
-    /// Whether there are no rows.
+    /// Whether there are no rows. It takes no memory.
     pub fn is_empty(&self) -> bool
         ensures { IsTrue result ↔ (self.now.list ≡ []) }
     {
-        self.rows.as_slice().is_empty()
+        self.pages.counts.all == 0
     }
 
-    /// Makes room for the delta, so that it can be applied without memory. The rows stay as they
-    /// were, also where memory is refused, which is the only error.
+    /// How many pages of rows there are, and the least and the greatest number of rows of one. Where
+    /// there are several, each has 16 to 64 rows; a single one has 1 to 64. It takes no memory.
+    pub fn shape(&self) -> Shape
+        ensures { IsShapeOf self.now.list result }
+    {
+        self.pages.rows.shape()
+    }
+
+    /// Makes the rows after the delta aside, so that it can be applied without memory. The rows stay
+    /// as they were, also where memory is refused, which is the only error: no delta can be applied
+    /// then.
     pub fn reserve(&mut self, delta: &Delta) -> Result<(), NoMemory>
         ensures list { self.new.list ≡ self.old.list }
-        ensures spare { OnOk result (length delta.now.changes ≤ self.new.spare) }
+        ensures spare { OnOk result (self.new.spare ≡ Some delta.now) }
+        ensures missing { OnErr result (self.new.spare ≡ None) }
     {
-        let changes = delta.changes.len();
-        self.rows.reserve(changes)?;
-        self.mentions.reserve(room_for(changes)?)?;
+        self.aside = None;
+        let aside = after_delta(self.alloc, &self.pages, delta)?;
+        self.aside = Some(aside);
         Ok(())
     }
 
-    /// Makes the changes of the delta, for which there is room: each key has the delta's row or
+    /// Makes the changes of the delta, for which the rows are ready: each key has the delta's row or
     /// none, and all else stays. It takes no memory.
     pub fn apply(&mut self, delta: Delta)
-        requires { length delta.changes ≤ self.old.spare }
+        requires { self.old.spare ≡ Some delta }
         ensures list { self.new.list ≡ change_rows self.old.list delta.changes }
+        ensures spare { self.new.spare ≡ None }
         ensures order { IsInKeyOrder self.new.list }
-        // A change takes one place of the room at most.
-        ensures spare { self.old.spare ≤ self.new.spare + length delta.changes }
         // Under each key stands what the last change there says, and else what stood there before.
         ensures last { StandUnderTheirKeys delta.changes → (key : Key) → row_at self.new.list key ≡ row_after (last_in delta.changes key) (row_at self.old.list key) }
         // Where the delta has each key once, that is its change of the key.
         ensures once { StandUnderTheirKeys delta.changes → HasAscendingKeys delta.changes → (key : Key) → row_at self.new.list key ≡ row_after (change_at delta.changes key) (row_at self.old.list key) }
     {
-        make_changes(&mut self.rows, &mut self.mentions, delta.changes);
+        let _ = delta;
+        match self.aside.take() {
+            Some(aside) => {
+                let Aside { changes: _, next } = aside;
+                self.pages = next;
+            }
+            None => unreachable!(),
+        }
     }
 
-    /// Rows with the same list. Want of memory is the only error.
+    /// Rows with the same list, whose pages are shared: the cost hardly grows with the rows. Want of
+    /// memory is the only error.
     pub fn copy(&self, alloc: Global) -> Result<Rows, NoMemory>
         ensures { IfOk result (λ copy. copy.list ≡ self.now.list) }
     {
-        let rows = copied(alloc, self.rows.as_slice())?;
-        let mentions = Vec::from_slice(alloc, self.mentions.as_slice())?;
+        let pages = self.pages.share()?;
         Ok(Rows {
-            rows: Ordered::from_ascending(rows),
-            mentions: Ordered::from_ascending(mentions),
+            alloc,
+            pages,
+            aside: None,
         })
     }
 }
 
-/// How many mentions so many changes may add.
-fn room_for(changes: usize) -> Result<usize, NoMemory>
-    ensures { IfOk result (λ room. room ≡ changes * MOST_TOPICS) }
+/// The rows after the delta, beside its changes.
+fn after_delta(alloc: Global, pages: &Pages, delta: &Delta) -> Result<Aside, NoMemory>
+    requires { spec.AreFound pages.now.rows pages.now.mentions pages.now.counts }
+    ensures changes { IfOk result (λ aside. map spec.read_change aside.changes.items ≡ delta.now.changes) }
+    ensures rows { IfOk result (λ aside. spec.rows_in aside.next.rows ≡ change_rows (spec.rows_in pages.now.rows) delta.now.changes) }
+    ensures found { IfOk result (λ aside. spec.AreFound aside.next.rows aside.next.mentions aside.next.counts) }
 {
-    match changes.checked_mul(MOST_TOPICS) {
-        Some(room) => Ok(room),
-        None => Err(NoMemory),
-    }
-}
-
-fn copied(alloc: Global, rows: &[Row]) -> Result<Vec<Row>, NoMemory>
-    ensures { IfOk result (λ copy. copy.items ≡ rows.now) }
-{
-    let mut copy = Vec::with_capacity(alloc, rows.len())?;
-    for row in rows {
-        copy.push(row.copy(alloc)?)?;
-    }
-    Ok(copy)
-}
-
-/// Makes the changes one after the other, for which there is room.
-fn make_changes(
-    rows: &mut Ordered<Row>,
-    mentions: &mut Ordered<Mention>,
-    changes: List<(Key, Option<Row>)>,
-)
-    requires room { length changes ≤ rows.old.spare }
-    requires mention_room { length changes * MOST_TOPICS ≤ mentions.old.spare }
-    requires mentioned { AreMentioned rows.old.list mentions.old.list }
-    ensures list { rows.new.list ≡ change_rows rows.old.list changes }
-    ensures mentioned { AreMentioned rows.new.list mentions.new.list }
-    ensures spare { rows.old.spare ≤ rows.new.spare + length changes }
-    ensures mention_spare { mentions.old.spare ≤ mentions.new.spare + length changes * MOST_TOPICS }
-{
-    for (key, change) in changes.into_vec() {
-        make_change(rows, mentions, &key, change);
-    }
-}
-
-/// Makes one change, for which there is room.
-fn make_change(
-    rows: &mut Ordered<Row>,
-    mentions: &mut Ordered<Mention>,
-    key: &Key,
-    change: Option<Row>,
-)
-    requires room { 1 ≤ rows.old.spare }
-    requires mention_room { MOST_TOPICS ≤ mentions.old.spare }
-    requires mentioned { AreMentioned rows.old.list mentions.old.list }
-    ensures list { rows.new.list ≡ change_row rows.old.list key.now change }
-    ensures mentioned { AreMentioned rows.new.list mentions.new.list }
-    ensures spare { rows.old.spare ≤ rows.new.spare + 1 }
-    ensures mention_spare { mentions.old.spare ≤ mentions.new.spare + MOST_TOPICS }
-{
-    match change {
-        Some(row) => put_row(rows, mentions, row),
-        None => remove_row(rows, mentions, key),
-    }
-}
-
-fn put_row(rows: &mut Ordered<Row>, mentions: &mut Ordered<Mention>, row: Row)
-    requires room { 1 ≤ rows.old.spare }
-    requires mention_room { MOST_TOPICS ≤ mentions.old.spare }
-    requires mentioned { AreMentioned rows.old.list mentions.old.list }
-    ensures list { rows.new.list ≡ put key_cmp row_key rows.old.list row }
-    ensures mentioned { AreMentioned rows.new.list mentions.new.list }
-    ensures spare { rows.old.spare ≤ rows.new.spare + 1 }
-    ensures mention_spare { mentions.old.spare ≤ mentions.new.spare + MOST_TOPICS }
-{
-    mention_put(rows, mentions, &row);
-    rows.put_in_room(row);
-}
-
-#[tactic(auto, using(crate::proofs::Mentioning::mentioned_without))]
-fn remove_row(rows: &mut Ordered<Row>, mentions: &mut Ordered<Mention>, key: &Key)
-    requires mentioned { AreMentioned rows.old.list mentions.old.list }
-    ensures list { rows.new.list ≡ without key_cmp row_key rows.old.list key.now }
-    ensures mentioned { AreMentioned rows.new.list mentions.new.list }
-    ensures spare { rows.old.spare ≤ rows.new.spare }
-    ensures mention_spare { mentions.old.spare ≤ mentions.new.spare }
-{
-    forget(rows, mentions, key);
-    rows.remove(key);
+    let changes = shared_changes(alloc, delta.changes.as_slice())?;
+    let settled = settled_changes(alloc, changes.as_slice())?;
+    let next = pages.changed(alloc, settled.as_slice())?;
+    Ok(Aside { changes, next })
 }
 
 impl Look for Rows {

@@ -1,50 +1,59 @@
-//! Runs of rows and of mentions that look-ups need, each found by binary searches.
-ghost use Rattle.std.specs.Prelude.{◌≡◌, filter};
-ghost use Rattle.std.specs.Ordering.{is_eq, is_gt};
+//! Places in the order of keys and of mentions that look-ups need, and what stands there.
+ghost use Rattle.std.specs.Prelude.{◌≡◌, filter, map};
+ghost use Rattle.std.specs.Ordering.{is_eq};
 ghost use Rattle.keyed.specs.Keyed.{Ascends};
-ghost use Rattle.shop_defs.specs.Rows.{IsInKeyOrder};
+ghost use Rattle.paged.specs.Pairs.{key_of, value_of};
 ghost use Rattle.shop_rows.specs.Mentions.{itself};
+ghost use Rattle.shop_rows.specs.Paging.{rows_in, mentions_in, AreFound};
 ghost use Rattle.shop_rows.specs.Searches as spec;
 ghost use Rattle.shop_rows.specs.Topics.{mention_cmp};
 
-use crate::run::{Place, items_behind, run_at};
+use crate::found::{Found, Place};
+use crate::pages::{Mentions, Pages};
 use crate::topic::{Mention, Topic};
+use paged::Inline;
 use shop_defs::{Entity, Key, Row};
+use std::alloc::Global;
 use std::cmp::Ordering;
+use std::sync::Arc;
 
-/// The place of a key.
-impl Place<Row> for Key {
-    ghost order = { spec.from_key };
+/// The mentions at a place.
+pub(crate) type MentionsAt<'a, P> = Found<'a, Mention, (), Inline<()>, P>;
 
-    fn order(&self, row: &Row) -> Ordering {
-        Key::order(&row.key, self)
-    }
+/// The rows at a place.
+pub(crate) type RowsAt<'a, P> = Found<'a, Key, Row, Arc<Row, Global>, P>;
+
+/// The place of the rows of an entity and a version.
+#[derive(Drop)]
+pub(crate) struct EntityOf {
+    entity: Entity,
+    version: u128,
 }
 
-/// The place of an entity's rows.
-impl Place<Row> for Entity {
-    ghost order = { spec.from_entity };
+impl Place<Key> for EntityOf {
+    ghost order = { λ place key. spec.from_entity_of place.entity place.version key };
 
-    fn order(&self, row: &Row) -> Ordering {
-        row.key.entity.cmp(self)
+    fn order(&self, key: &Key) -> Ordering {
+        key.entity
+            .cmp(&self.entity)
+            .then(key.version.cmp(&self.version))
     }
 }
 
 /// The place of the live rows of an entity with an id.
 #[derive(Drop)]
-struct LiveId {
+pub(crate) struct LiveId {
     entity: Entity,
     id: u128,
 }
 
-impl Place<Row> for LiveId {
-    ghost order = { λ place. spec.from_live_id place.entity place.id };
+impl Place<Key> for LiveId {
+    ghost order = { λ place key. spec.from_live_id place.entity place.id key };
 
-    fn order(&self, row: &Row) -> Ordering {
-        row.key
-            .entity
+    fn order(&self, key: &Key) -> Ordering {
+        key.entity
             .cmp(&self.entity)
-            .then(row.key.version.cmp(&0).then(row.key.id.cmp(&self.id)))
+            .then(key.version.cmp(&0).then(key.id.cmp(&self.id)))
     }
 }
 
@@ -59,7 +68,7 @@ impl Place<Mention> for Topic {
 
 /// The place of a topic's mentions by the rows of an entity.
 #[derive(Drop)]
-struct TopicOf {
+pub(crate) struct TopicOf {
     topic: Topic,
     entity: Entity,
 }
@@ -75,42 +84,67 @@ impl Place<Mention> for TopicOf {
     }
 }
 
-/// The rows with greater keys.
-pub(crate) fn rows_behind<'a>(rows: &'a [Row], key: &Key) -> &'a [Row]
-    requires { IsInKeyOrder rows.now }
-    ensures { result.now ≡ filter (λ row. is_gt (spec.from_key key.now row)) rows.entry.now }
+/// The rows of the entity and the version.
+pub(crate) fn rows_of(pages: &Pages, entity: Entity, version: u128) -> RowsAt<'_, EntityOf>
+    requires { AreFound pages.now.rows pages.now.mentions pages.now.counts }
+    ensures { map value_of result ≡ filter (λ row. is_eq (spec.from_entity_of entity version row.key)) (rows_in pages.now.rows) }
 {
-    items_behind(key, rows)
-}
-
-/// The rows of the entity.
-pub(crate) fn rows_of_entity(rows: &[Row], entity: Entity) -> &[Row]
-    requires { IsInKeyOrder rows.now }
-    ensures { result.now ≡ filter (λ row. is_eq (spec.from_entity entity row)) rows.now }
-{
-    run_at(&entity, rows)
+    let low = Key {
+        entity,
+        version,
+        id: 0,
+        second: 0,
+    };
+    Found::at(EntityOf { entity, version }, pages.rows.runs_from(&low))
 }
 
 /// The live rows of the entity with the id.
-pub(crate) fn live_rows_of(rows: &[Row], entity: Entity, id: u128) -> &[Row]
-    requires { IsInKeyOrder rows.now }
-    ensures { result.now ≡ filter (λ row. is_eq (spec.from_live_id entity id row)) rows.now }
+pub(crate) fn live_rows_of(pages: &Pages, entity: Entity, id: u128) -> RowsAt<'_, LiveId>
+    requires { AreFound pages.now.rows pages.now.mentions pages.now.counts }
+    ensures { map value_of result ≡ filter (λ row. is_eq (spec.from_live_id entity id row.key)) (rows_in pages.now.rows) }
 {
-    run_at(&LiveId { entity, id }, rows)
+    let low = Key {
+        entity,
+        version: 0,
+        id,
+        second: 0,
+    };
+    Found::at(LiveId { entity, id }, pages.rows.runs_from(&low))
 }
 
 /// The mentions of the topic.
-pub(crate) fn mentions_at(mentions: &[Mention], topic: Topic) -> &[Mention]
-    requires { Ascends mention_cmp itself mentions.now }
-    ensures { result.now ≡ filter (λ mention. is_eq (spec.from_topic topic mention)) mentions.now }
+pub(crate) fn mentions_at(mentions: &Mentions, topic: Topic) -> MentionsAt<'_, Topic>
+    requires { Ascends mention_cmp itself (mentions_in mentions.now) }
+    ensures { map key_of result ≡ filter (λ mention. is_eq (spec.from_topic topic mention)) (mentions_in mentions.now) }
 {
-    run_at(&topic, mentions)
+    let low = lowest(topic, Entity::Language);
+    Found::at(topic, mentions.runs_from(&low))
 }
 
 /// The mentions of the topic by the rows of the entity.
-pub(crate) fn mentions_at_of(mentions: &[Mention], topic: Topic, entity: Entity) -> &[Mention]
-    requires { Ascends mention_cmp itself mentions.now }
-    ensures { result.now ≡ filter (λ mention. is_eq (spec.from_topic_of topic entity mention)) mentions.now }
+pub(crate) fn mentions_at_of(
+    mentions: &Mentions,
+    topic: Topic,
+    entity: Entity,
+) -> MentionsAt<'_, TopicOf>
+    requires { Ascends mention_cmp itself (mentions_in mentions.now) }
+    ensures { map key_of result ≡ filter (λ mention. is_eq (spec.from_topic_of topic entity mention)) (mentions_in mentions.now) }
 {
-    run_at(&TopicOf { topic, entity }, mentions)
+    let low = lowest(topic, entity);
+    Found::at(TopicOf { topic, entity }, mentions.runs_from(&low))
+}
+
+/// The lowest mention of the topic by a row of the entity that may be.
+fn lowest(topic: Topic, entity: Entity) -> Mention
+    ensures { result ≡ spec.lowest topic entity }
+{
+    Mention {
+        topic,
+        key: Key {
+            entity,
+            version: 0,
+            id: 0,
+            second: 0,
+        },
+    }
 }

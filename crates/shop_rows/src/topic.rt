@@ -5,7 +5,6 @@ ghost use Rattle.std.specs.Ordering.{as_partial_cmp, eq_by_cmp};
 ghost use Rattle.shop_rows.specs.Topics.{topic_cmp};
 ghost use Rattle.shop_rows.specs.TopicOrder.{topic_cmp_total};
 
-use ordered::Entry;
 use shop_defs::{Entity, Key};
 use std::cmp::Ordering;
 
@@ -94,15 +93,4 @@ impl Ord for Topic {
 pub(crate) struct Mention {
     pub(crate) topic: Topic,
     pub(crate) key: Key,
-}
-
-/// A mention stands once, by its topic and then by its key.
-impl Entry for Mention {
-    type Key = Mention;
-
-    ghost key_of = { λ mention. mention };
-
-    fn key(&self) -> Mention {
-        *self
-    }
 }

@@ -15,7 +15,7 @@ pub fn read_tree(alloc: Global, rows: &Rows, rule: u128) -> Result<Tree, NoMemor
     ensures { IfOk result (λ tree. tree ≡ conditions rows.now.list rule) }
 {
     // Of this call just its promise is wanted: the rows stand in the order of their keys.
-    let _all = rows.as_slice().len();
+    let _all = rows.len();
     let keys = rows.referrers_of(alloc, &rule_key(rule))?;
     let nodes = conditions_at(alloc, rows, keys.as_slice())?;
     Ok(Tree::from_nodes(List::from_vec(nodes)))

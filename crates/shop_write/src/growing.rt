@@ -22,7 +22,7 @@ use crate::view::View;
 use shop_defs::{
     Copied, Delta, Entity, Key, List, NoMemory, Op, OpKind, OwnerLimit, PlanFault, Row,
 };
-use shop_rows::Rows;
+use shop_rows::{Rows, Walk};
 use std::alloc::{AllocError, Global};
 use std::marker::Model;
 
@@ -54,7 +54,7 @@ impl<'a> Growing<'a> {
     pub fn new(alloc: Global, base: &'a Rows) -> Growing<'a>
         ensures { result ≡ record { base = base.entry.now.list; lost = []; over = [] } }
     {
-        let _order = base.as_slice();
+        let _order = base.len();
         Growing {
             base,
             lost: Rows::empty(alloc),
@@ -108,8 +108,8 @@ impl<'a> Growing<'a> {
         ensures live { IfOk result (λ delta. AreLive delta.changes) }
         ensures drafts { IfOk result (λ delta. drafted (change_rows self.now.base delta.changes) ≡ drafted self.now.base) }
     {
-        let lost = keys_of(alloc, self.lost.as_slice())?;
-        let over = keys_of(alloc, self.over.as_slice())?;
+        let lost = keys_of(alloc, self.lost.iter())?;
+        let over = keys_of(alloc, self.over.iter())?;
         let keys = joined_keys(alloc, lost.as_slice(), over.as_slice())?;
         let changes = changes_by(alloc, &self.over, keys.as_slice())?;
         Ok(Delta { changes })
@@ -184,7 +184,7 @@ fn small_count(rows: &Rows, entity: Entity) -> usize
     ensures count { result ≡ count_rows rows.now.list entity }
     ensures small { result < 2 ^ 63 }
 {
-    let _all = rows.as_slice().len();
+    let _all = rows.len();
     rows.count(entity)
 }
 
@@ -194,16 +194,17 @@ fn small_count_owned(rows: &Rows, limit: &OwnerLimit, owner: u128) -> usize
     ensures count { result ≡ count_owned limit.now (live rows.now.list) owner }
     ensures small { result < 2 ^ 63 }
 {
-    let _all = rows.as_slice().len();
+    let _all = rows.len();
     rows.count_owned(limit, owner)
 }
 
 /// The keys of the rows.
-fn keys_of(alloc: Global, rows: &[Row]) -> Result<Vec<Key>, AllocError>
-    ensures { IfOk result (λ keys. keys.items ≡ map row_key rows.now) }
+fn keys_of(alloc: Global, rows: Walk<'_>) -> Result<Vec<Key>, AllocError>
+    ensures { IfOk result (λ keys. keys.items ≡ map row_key rows.entry) }
 {
-    let mut keys = Vec::with_capacity(alloc, rows.len())?;
-    for row in rows {
+    let mut keys = Vec::new(alloc);
+    let mut rows = rows;
+    while let Some(row) = rows.next() {
         keys.push(row.key)?;
     }
     Ok(keys)

@@ -24,7 +24,7 @@ impl View for Rows {
     }
 
     fn get<'a>(&'a self, key: &Key) -> Option<&'a Row> {
-        let _order = self.as_slice();
+        let _order = self.len();
         Rows::get(self, &live_key(key))
     }
 

@@ -1,5 +1,6 @@
-use Rattle.shop_rows.proofs.Rising.{live_ids_rise}
+use Rattle.paged.specs.Paged.{all_pairs}
+use Rattle.shop_rows.proofs.Fronts.{live_id_front}
 use Rattle.shop_rows.proofs.searches.live_rows_of.Goals as goal
 
-pub run_at-requires : goal.run_at-requires
-run_at-requires c = live_ids_rise c.args.rows.now c.args.entity c.args.id c.requires
+pub returns : goal.returns
+returns c = rw (c.at.ensures, c.runs_from.ensures) (live_id_front (all_pairs c.args.pages.now.rows) c.args.entity c.args.id c.requires.stand c.requires.mentioned.order)

@@ -1,4 +1,4 @@
-use Rattle.std.proofs.Common.{arith, ap, length}
+use Rattle.std.proofs.Common.{arith}
 use Rattle.std.proofs.lemmas.List.Sums.{count_by-le-length, length-filter}
 use Rattle.shop_operations.specs.References.{is_live, live}
 use Rattle.shop_rows.specs.Owners.{belongs}
@@ -10,5 +10,4 @@ returns-clause-small c =
     let owned = count_by-le-length (belongs c.args.limit.now c.args.owner) (live rows) in
     let shown = length-filter is_live rows in
     let all = count_by-le-length is_live rows in
-    let same = ap length c.as_slice-all.ensures.rows in
-    omega arith
+    omega (arith, owned, shown, all, c.len-all.ensures.count, c.len-all.ensures.few)

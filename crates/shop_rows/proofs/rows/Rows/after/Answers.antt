@@ -1,10 +1,17 @@
-use Rattle.std.proofs.Common.{ap}
-use Rattle.ordered.specs.Held.{Held}
-use Rattle.shop_defs.specs.declared.row.Row.{Row}
+use Rattle.std.proofs.Common.{sym, ap, ◌∙◌}
+use Rattle.std.specs.Option.{option_map}
+use Rattle.paged.specs.Pairs.{value_of}
+use Rattle.paged.specs.Paged.{all_pairs}
+use Rattle.shop_rows.specs.Held.{Held}
 use Rattle.shop_rows.proofs.LookedUp.{next_found}
 use Rattle.shop_rows.proofs.rows.Rows.after.Goals as goal
 
-pub returns : goal.returns
-returns c =
-    let same = ap (λ (h : Held Row). h.list) c.self.view_is in
-    rw (c.first.ensures.value, c.rows_behind.ensures, c.as_slice.ensures, ← same) (next_found c.self.inside.rows.list c.args.key.now)
+pub returns-in-Some : goal.returns-in-Some
+returns-in-Some c =
+    let same = ap (λ (h : Held). h.list) c.self.view_is in
+    ap (option_map value_of) c.in-Some.ensures ∙ rw (← same) (next_found (all_pairs c.self.inside.pages.rows) c.args.key.now c.self.invariant.0.stand)
+
+pub returns-in-None : goal.returns-in-None
+returns-in-None c =
+    let same = ap (λ (h : Held). h.list) c.self.view_is in
+    ap (option_map value_of) c.in-None.ensures ∙ rw (← same) (next_found (all_pairs c.self.inside.pages.rows) c.args.key.now c.self.invariant.0.stand)

@@ -1,11 +1,11 @@
-use Rattle.std.proofs.Common.{ap}
-use Rattle.ordered.specs.Held.{Held}
-use Rattle.shop_defs.specs.declared.row.Row.{Row}
-use Rattle.shop_rows.proofs.LookedUp.{child_keys_found}
+use Rattle.std.proofs.Common.{sym, ap, ◌∙◌}
+use Rattle.paged.specs.Paged.{all_pairs}
+use Rattle.shop_rows.specs.Held.{Held}
+use Rattle.shop_rows.specs.Paging.{rows_in, mentions_in}
+use Rattle.shop_rows.proofs.LookedUp.{child_keys_of}
 use Rattle.shop_rows.proofs.rows.Rows.child_keys.Goals as goal
 
 pub returns : goal.returns
 returns c =
-    let same = ap (λ (h : Held Row). h.list) c.self.view_is in
-    rw (c.from_vec.ensures, c.in_ok-keys.ensures, c.mentions_at_of-run.ensures, c.as_slice.ensures, ← same)
-    (child_keys_found c.self.inside.rows.list c.self.inside.mentions.list c.args.entity c.args.version c.args.parent c.self.invariant)
+    let same = ap (λ (h : Held). h.list) c.self.view_is in
+    c.from_vec.ensures ∙ (c.in_ok-keys.ensures ∙ rw (← same) (child_keys_of (rows_in c.self.inside.pages.rows) (mentions_in c.self.inside.pages.mentions) c.self.invariant.0.mentioned c.mentions_at_of-found.result c.args.entity c.args.version c.args.parent (rw c.referring.ensures at c.mentions_at_of-found.ensures)))

@@ -11,16 +11,16 @@ use Rattle.shop_write.proofs.growing.Growing.delta.Goals as goal
 
 pub joined_keys-requires : goal.joined_keys-requires
 joined_keys-requires c =
-    let keys = c.as_slice-4.ensures.value ∙ (c.in_ok-over.ensures ∙ ap (map row_key) c.as_slice-2.ensures.rows) in
+    let keys = c.as_slice-2.ensures.value ∙ (c.in_ok-over.ensures ∙ ap (map row_key) c.iter-2.ensures.rows) in
     rw keys (ascends_map key_cmp row_key key_cmp_total c.self.inside.over.list c.self.invariant.over_order)
 
 -- the changes are those of the batch
 changes_is : (c : goal.After-drop-lost-2) → c.in_ok-changes.changes ≡ changes_of c.self.inside.lost.list c.self.inside.over.list
 changes_is c =
-    let lost = c.as_slice-3.ensures.value ∙ (c.in_ok-lost.ensures ∙ ap (map row_key) c.as_slice.ensures.rows) in
-    let over = c.as_slice-4.ensures.value ∙ (c.in_ok-over.ensures ∙ ap (map row_key) c.as_slice-2.ensures.rows) in
+    let lost = c.as_slice.ensures.value ∙ (c.in_ok-lost.ensures ∙ ap (map row_key) c.iter.ensures.rows) in
+    let over = c.as_slice-2.ensures.value ∙ (c.in_ok-over.ensures ∙ ap (map row_key) c.iter-2.ensures.rows) in
     c.in_ok-changes.ensures
-    ∙ (ap (map (change_by c.self.inside.over.list)) (c.as_slice-5.ensures.value ∙ (c.in_ok-keys.ensures ∙ (ap (λ keys. joined_keys keys c.as_slice-4.result.now) lost ∙ ap (joined_keys (map row_key c.self.inside.lost.list)) over)))
+    ∙ (ap (map (change_by c.self.inside.over.list)) (c.as_slice-3.ensures.value ∙ (c.in_ok-keys.ensures ∙ (ap (λ keys. joined_keys keys c.as_slice-2.result.now) lost ∙ ap (joined_keys (map row_key c.self.inside.lost.list)) over)))
     ∙ changes_by_key c.self.inside.lost.list c.self.inside.over.list c.self.invariant.lost_order c.self.invariant.over_order)
 
 pub returns-clause-changes : goal.returns-clause-changes

@@ -7,7 +7,7 @@ pub returns-clause-row : goal.returns-clause-row
 returns-clause-row c =
     c.get.ensures
     ∙ (ap (row_at c.args.self.now.list) c.live_key.ensures
-    ∙ sym (row_in-live c.args.self.now.list c.args.key.now c.as_slice-order.ensures.order))
+    ∙ sym (row_in-live c.args.self.now.list c.args.key.now c.len-order.ensures.order))
 
 pub returns-clause-order : goal.returns-clause-order
-returns-clause-order c = live_in_order c.args.self.now.list c.as_slice-order.ensures.order
+returns-clause-order c = live_in_order c.args.self.now.list c.len-order.ensures.order

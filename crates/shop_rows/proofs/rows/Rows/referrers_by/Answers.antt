@@ -1,0 +1,11 @@
+use Rattle.std.proofs.Common.{sym, ap, ◌∙◌}
+use Rattle.paged.specs.Paged.{all_pairs}
+use Rattle.shop_rows.specs.Held.{Held}
+use Rattle.shop_rows.specs.Paging.{rows_in, mentions_in}
+use Rattle.shop_rows.proofs.LookedUp.{referrers_by_of}
+use Rattle.shop_rows.proofs.rows.Rows.referrers_by.Goals as goal
+
+pub returns : goal.returns
+returns c =
+    let same = ap (λ (h : Held). h.list) c.self.view_is in
+    c.from_vec.ensures ∙ (c.in_ok-keys.ensures ∙ rw (← same) (referrers_by_of (rows_in c.self.inside.pages.rows) (mentions_in c.self.inside.pages.mentions) c.self.invariant.0.mentioned c.mentions_at_of.result c.args.entity c.args.version c.args.key.now.entity c.args.key.now.id (rw c.referring-topic.ensures at c.mentions_at_of.ensures)))
