@@ -17,7 +17,7 @@ module _ {K : Type 0} (cmp : K → K → Ordering) (order : IsTotalOrder cmp) wh
   flip : (a b : K) → cmp a b ≡ Less → cmp b a ≡ Greater
   flip a b l = order.antisymm b a ∙ ap ordering_reverse l
 
-  flip_back : (a b : K) → cmp a b ≡ Greater → cmp b a ≡ Less
+  pub flip_back : (a b : K) → cmp a b ≡ Greater → cmp b a ≡ Less
   flip_back a b g = order.antisymm b a ∙ ap ordering_reverse g
 
   flip_equal : (a b : K) → cmp a b ≡ Equal → cmp b a ≡ Equal
@@ -37,10 +37,10 @@ module _ {K : Type 0} (cmp : K → K → Ordering) (order : IsTotalOrder cmp) wh
       by Greater e f = order.trans a k d l (flip_back d k e)
 
   module _ {X : Type 0} where
-    abbrev Below : K → List (K × X) → Type 0
+    abbrev pub Below : K → List (K × X) → Type 0
     Below k xs = AllByRecursion (λ x. cmp x.0 k ≡ Less) xs
 
-    abbrev Above : K → List (K × X) → Type 0
+    abbrev pub Above : K → List (K × X) → Type 0
     Above k xs = AllByRecursion (λ x. cmp k x.0 ≡ Less) xs
 
     put_front : (k : K) (v : X) (fs bs : List (K × X)) → Below k fs → put cmp key_of (fs ++ bs) (k, v) ≡ fs ++ put cmp key_of bs (k, v)
@@ -77,11 +77,11 @@ module _ {K : Type 0} (cmp : K → K → Ordering) (order : IsTotalOrder cmp) wh
         by more Equal e = rw e refl
         by more Greater e = rw e (ap (λ (l : List (K × X)). x ∷ l) more)
 
-    changed_at_front : (k : K) (o : Option X) (fs bs : List (K × X)) → Below k fs → changed_at cmp (fs ++ bs) k o ≡ fs ++ changed_at cmp bs k o
+    pub changed_at_front : (k : K) (o : Option X) (fs bs : List (K × X)) → Below k fs → changed_at cmp (fs ++ bs) k o ≡ fs ++ changed_at cmp bs k o
     changed_at_front k None fs bs h = without_front k fs bs h
     changed_at_front k (Some v) fs bs h = put_front k v fs bs h
 
-    changed_at_back : (k : K) (o : Option X) (fs bs : List (K × X)) → Above k bs → changed_at cmp (fs ++ bs) k o ≡ changed_at cmp fs k o ++ bs
+    pub changed_at_back : (k : K) (o : Option X) (fs bs : List (K × X)) → Above k bs → changed_at cmp (fs ++ bs) k o ≡ changed_at cmp fs k o ++ bs
     changed_at_back k None fs bs h = without_back k fs bs h
     changed_at_back k (Some v) fs bs h = put_back k v fs bs h
 
@@ -107,7 +107,7 @@ module _ {K : Type 0} (cmp : K → K → Ordering) (order : IsTotalOrder cmp) wh
     all_changed_at P xs k None a p = all_without P xs k a
     all_changed_at P xs k (Some v) a p = all_put P xs k v a p
 
-    all_weaken : (P Q : K → Type 0) (xs : List (K × X)) → ((k : K) → P k → Q k) → AllByRecursion (λ x. P x.0) xs → AllByRecursion (λ x. Q x.0) xs
+    pub all_weaken : (P Q : K → Type 0) (xs : List (K × X)) → ((k : K) → P k → Q k) → AllByRecursion (λ x. P x.0) xs → AllByRecursion (λ x. Q x.0) xs
     all_weaken P Q [] f a = tt
     all_weaken P Q (x ∷ xs) f a = (f x.0 a.0, all_weaken P Q xs f a.1)
 
@@ -120,7 +120,7 @@ module _ {K : Type 0} (cmp : K → K → Ordering) (order : IsTotalOrder cmp) wh
     ascends_second (x ∷ xs) ys up = ascends_second xs ys up.1
 
     -- what begins at a key is above all that is below the key
-    above_head : (a k : K) (bs : List (K × X)) → HasHead (k, bs) → Ascends cmp key_of bs → cmp a k ≡ Less → Above a bs
+    pub above_head : (a k : K) (bs : List (K × X)) → HasHead (k, bs) → Ascends cmp key_of bs → cmp a k ≡ Less → Above a bs
     above_head a k [] head up l = absurd head
     above_head a k (b ∷ bs) head up l =
         let first : cmp a b.0 ≡ Less = rw head l in
@@ -130,7 +130,7 @@ module _ {K : Type 0} (cmp : K → K → Ordering) (order : IsTotalOrder cmp) wh
     first_at a k [] head all = absurd head
     first_at a k (b ∷ bs) head all = rw (sym head) all.0
 
-    below_head : (k : K) (fs bs : List (K × X)) → HasHead (k, bs) → Ascends cmp key_of (fs ++ bs) → Below k fs
+    pub below_head : (k : K) (fs bs : List (K × X)) → HasHead (k, bs) → Ascends cmp key_of (fs ++ bs) → Below k fs
     below_head k [] bs head up = tt
     below_head k (x ∷ fs) bs head up = (first_at x.0 k bs head (all_second (λ y. cmp x.0 y.0 ≡ Less) fs bs up.0), below_head k fs bs head up.1)
 

@@ -8,3 +8,4 @@ pub mod Stepping
 pub mod Looking
 pub mod Shaping
 pub mod Walking
+pub mod Edits

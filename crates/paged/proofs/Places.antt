@@ -148,6 +148,7 @@ module _ {K : Type 0} (cmp : K → K → Ordering) where
       above : first_above cmp xs q ≡ first_of (drop i xs);
       none : i ≡ 0 → part_at cmp xs q ≡ None;
       part : (n : ℕ) (d : K × X) → i ≡ n + 1 → part_at cmp xs q ≡ Some (get_or xs n d).1;
+      up_to : (n : ℕ) (d : K × X) → i ≡ n + 1 → is_gt (cmp (get_or xs n d).0 q) ≡ false;
       whole : i ≡ 0 → parts_from cmp xs q ≡ xs;
       from : (n : ℕ) → i ≡ n + 1 → parts_from cmp xs q ≡ drop n xs;
     }
@@ -156,6 +157,7 @@ module _ {K : Type 0} (cmp : K → K → Ordering) where
       above = above_gap xs q i gap;
       none = λ e. part_none xs q (rw e at gap);
       part = λ n d e. part_gap xs q n d (rw (e, add-one) at gap);
+      up_to = λ n d e. let under : cmp (get_or xs n d).0 q ≡ Less = gap.below n d (omega arith) (omega (arith, gap.in_range)) in rw under refl;
       whole = λ e. whole_gap xs q (rw e at gap);
       from = λ n e. behind_gap xs q n (rw (e, add-one) at gap);
     }
@@ -205,6 +207,7 @@ module _ {K : Type 0} (cmp : K → K → Ordering) where
         above : first_above cmp xs q ≡ first_of (drop (i + 1) xs);
         none : i + 1 ≡ 0 → part_at cmp xs q ≡ None;
         part : (n : ℕ) (d : K × X) → i + 1 ≡ n + 1 → part_at cmp xs q ≡ Some (get_or xs n d).1;
+        up_to : (n : ℕ) (d : K × X) → i + 1 ≡ n + 1 → is_gt (cmp (get_or xs n d).0 q) ≡ false;
         whole : i + 1 ≡ 0 → parts_from cmp xs q ≡ xs;
         from : (n : ℕ) → i + 1 ≡ n + 1 → parts_from cmp xs q ≡ drop n xs;
       }
@@ -213,6 +216,7 @@ module _ {K : Type 0} (cmp : K → K → Ordering) where
         above = rw add-one (above_at xs q i up at);
         none = λ e. absurd (omega arith);
         part = λ n d e. let same : i ≡ n = omega arith in rw (← same) (part_found xs q i d up at);
+        up_to = λ n d e. let same : i ≡ n = omega arith in rw (← same) (let equal : cmp (get_or xs i d).0 q ≡ Equal = at.equal d in rw equal refl);
         whole = λ e. absurd (omega arith);
         from = λ n e. let same : i ≡ n = omega arith in rw (← same) (parts_at xs q i up at);
       }

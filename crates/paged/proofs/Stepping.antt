@@ -16,11 +16,11 @@ use Rattle.paged.specs.Changed.{changed, given}
 use Rattle.paged.proofs.Heads.{all_second, parts_join}
 use Rattle.paged.proofs.Changes.{change_step, changed_parted, ascends_first, ascends_second}
 
-head_of_parts : {K X : Type 0} (k : K) (p : List (K × X)) (t : List (K × X)) → HasHead (k, p) → HasHead (k, p ++ t)
+pub head_of_parts : {K X : Type 0} (k : K) (p : List (K × X)) (t : List (K × X)) → HasHead (k, p) → HasHead (k, p ++ t)
 head_of_parts k [] t head = absurd head
 head_of_parts k (x ∷ p) t head = head
 
-head_in : {K V : Type 0} (k : K) (c : List (K × List (K × V))) → HasHead (k, c) → AllByRecursion HasHead c → HasHead (k, parts c)
+pub head_in : {K V : Type 0} (k : K) (c : List (K × List (K × V))) → HasHead (k, c) → AllByRecursion HasHead c → HasHead (k, parts c)
 head_in k [] head heads = absurd head
 head_in k ((k2, p) ∷ c) head heads = let same : k2 ≡ k = head in subst (λ z. HasHead (z, p ++ parts c)) same (head_of_parts k2 p (parts c) heads.0)
 
@@ -44,7 +44,7 @@ module _ {K : Type 0} (cmp : K → K → Ordering) where
   ascends_take (suc n) [] up = tt
   ascends_take (suc n) (x ∷ xs) up = (all_take (λ y. cmp x.0 y.0 ≡ Less) n xs up.0, ascends_take n xs up.1)
 
-  drop_at : {C : Type 0} (xs : List C) (i : ℕ) (c : C) → i < length xs → c ≡ get_or xs i c → drop i xs ≡ c ∷ drop (suc i) xs
+  pub drop_at : {C : Type 0} (xs : List C) (i : ℕ) (c : C) → i < length xs → c ≡ get_or xs i c → drop i xs ≡ c ∷ drop (suc i) xs
   drop_at [] i c l is = absurd (omega arith)
   drop_at (x ∷ xs) zero c l is = rw is refl
   drop_at (x ∷ xs) (suc i) c l is = drop_at xs i c (omega arith) is

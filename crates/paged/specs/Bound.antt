@@ -31,7 +31,7 @@ module _ {K V C : Type 0} where
 
   -- the pairs that are put down
   abbrev pub made : Maker K V C → List (K × V)
-  made m = parts (bound m.pages) ++ m.open
+  made m = parts (bound m.pages) ++ m.tail
 
   abbrev pub IsMade : Maker K V C → Type 0
-  IsMade m = AreMade m.pages.chunks m.pages.pages m.open
+  IsMade m = AreMade m.pages.chunks m.pages.pages m.tail

@@ -21,6 +21,7 @@
 
 mod binder;
 mod changing;
+mod editing;
 mod leaf;
 mod maker;
 mod paged;

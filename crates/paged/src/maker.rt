@@ -29,7 +29,7 @@ const HALF: usize = 24;
 pub(crate) struct Maker<K: Copy + Drop, V: Drop, C: Leaf<V>> {
     pub(crate) alloc: Global,
     pages: Binder<K, V, C>,
-    open: Page<K, V, C>,
+    tail: Page<K, V, C>,
 }
 
 impl<K: Copy + Drop, V: Drop, C: Leaf<V>> Maker<K, V, C> {
@@ -40,7 +40,7 @@ impl<K: Copy + Drop, V: Drop, C: Leaf<V>> Maker<K, V, C> {
         Maker {
             alloc,
             pages: Binder::new(alloc),
-            open: Sheet::new(alloc),
+            tail: Sheet::new(alloc),
         }
     }
 
@@ -51,7 +51,7 @@ impl<K: Copy + Drop, V: Drop, C: Leaf<V>> Maker<K, V, C> {
         ensures makes { OnOk result (IsMade self.new) }
     {
         self.make_room()?;
-        self.open.share(key, leaf)
+        self.tail.share(key, leaf)
     }
 
     /// Adds pairs that share the values.
@@ -78,7 +78,7 @@ impl<K: Copy + Drop, V: Drop, C: Leaf<V>> Maker<K, V, C> {
         ensures pairs { OnOk result (made self.new ≡ made self.old ++ arc_value page.now) }
         ensures makes { OnOk result (IsMade self.new) }
     {
-        let open = self.open.len();
+        let open = self.tail.len();
         if page.len() < LEAST || open > 0 && open < LEAST {
             self.share_all(page.entries())
         } else {
@@ -126,12 +126,12 @@ impl<K: Copy + Drop, V: Drop, C: Leaf<V>> Maker<K, V, C> {
     /// Whether the pages of the chunk have their sizes beside others, and so have the open pairs.
     fn can_share(&self, chunk: &Chunk<K, V, C>) -> bool
         ensures several { OnTrue result (2 ≤ length chunk.now) }
-        ensures enough { OnTrue result ((length self.now.open ≡ 0) ⊎ (16 ≤ length self.now.open)) }
+        ensures enough { OnTrue result ((length self.now.tail ≡ 0) ⊎ (16 ≤ length self.now.tail)) }
     {
         if chunk.len() < 2 {
             return false;
         }
-        let open = self.open.len();
+        let open = self.tail.len();
         open == 0 || open >= LEAST
     }
 
@@ -140,9 +140,9 @@ impl<K: Copy + Drop, V: Drop, C: Leaf<V>> Maker<K, V, C> {
         requires { IsMade self.old }
         ensures pairs { OnOk result (made self.new ≡ made self.old) }
         ensures makes { OnOk result (IsMade self.new) }
-        ensures room { OnOk result (length self.new.open + 1 < 80) }
+        ensures room { OnOk result (length self.new.tail + 1 < 80) }
     {
-        if self.open.len() < FULL {
+        if self.tail.len() < FULL {
             Ok(())
         } else {
             self.cut()
@@ -152,13 +152,13 @@ impl<K: Copy + Drop, V: Drop, C: Leaf<V>> Maker<K, V, C> {
     /// Cuts a page of 24 pairs off the open ones.
     fn cut(&mut self) -> Result<(), AllocError>
         requires makes { IsMade self.old }
-        requires many { 40 ≤ length self.old.open }
+        requires many { 40 ≤ length self.old.tail }
         ensures pairs { OnOk result (made self.new ≡ made self.old) }
         ensures makes { OnOk result (IsMade self.new) }
-        ensures open { OnOk result (length self.new.open + 24 ≡ length self.old.open) }
+        ensures open { OnOk result (length self.new.tail + 24 ≡ length self.old.tail) }
     {
-        let rest = self.open.split_off(HALF)?;
-        let page = replace(&mut self.open, rest);
+        let rest = self.tail.split_off(HALF)?;
+        let page = replace(&mut self.tail, rest);
         self.pages.push(page)?;
         Ok(())
     }
@@ -168,11 +168,11 @@ impl<K: Copy + Drop, V: Drop, C: Leaf<V>> Maker<K, V, C> {
         requires makes { IsMade self.old }
         ensures pairs { OnOk result (made self.new ≡ made self.old) }
         ensures makes { OnOk result (IsMade self.new) }
-        ensures most { OnOk result (length self.new.open ≤ 64) }
-        ensures long { OnOk result (64 < length self.old.open → 16 ≤ length self.new.open) }
-        ensures short { OnOk result (length self.old.open ≤ 64 → (self.new.open ≡ self.old.open) × (bound self.new.pages ≡ bound self.old.pages)) }
+        ensures most { OnOk result (length self.new.tail ≤ 64) }
+        ensures long { OnOk result (64 < length self.old.tail → 16 ≤ length self.new.tail) }
+        ensures short { OnOk result (length self.old.tail ≤ 64 → (self.new.tail ≡ self.old.tail) × (bound self.new.pages ≡ bound self.old.pages)) }
     {
-        if self.open.len() <= MOST {
+        if self.tail.len() <= MOST {
             Ok(())
         } else {
             self.cut()
@@ -182,13 +182,13 @@ impl<K: Copy + Drop, V: Drop, C: Leaf<V>> Maker<K, V, C> {
     /// Makes pages of the open pairs, which are at least 16 or none.
     fn settle(&mut self) -> Result<(), AllocError>
         requires makes { IsMade self.old }
-        requires enough { (length self.old.open ≡ 0) ⊎ (16 ≤ length self.old.open) }
+        requires enough { (length self.old.tail ≡ 0) ⊎ (16 ≤ length self.old.tail) }
         ensures pairs { OnOk result (made self.new ≡ made self.old) }
         ensures makes { OnOk result (IsMade self.new) }
-        ensures open { OnOk result (self.new.open ≡ []) }
+        ensures open { OnOk result (self.new.tail ≡ []) }
     {
         self.trim()?;
-        let open = replace(&mut self.open, Sheet::new(self.alloc));
+        let open = replace(&mut self.tail, Sheet::new(self.alloc));
         self.pages.push(open)
     }
 
@@ -197,17 +197,17 @@ impl<K: Copy + Drop, V: Drop, C: Leaf<V>> Maker<K, V, C> {
         requires { IsMade self.old }
         ensures pairs { OnOk result (made self.new ≡ made self.old) }
         ensures makes { OnOk result (IsMade self.new) }
-        ensures enough { OnOk result ((length self.new.open ≡ 0) ⊎ ((16 ≤ length self.new.open) ⊎ (bound self.new.pages ≡ []))) }
+        ensures enough { OnOk result ((length self.new.tail ≡ 0) ⊎ ((16 ≤ length self.new.tail) ⊎ (bound self.new.pages ≡ []))) }
     {
-        let open = self.open.len();
+        let open = self.tail.len();
         if open == 0 || open >= LEAST {
             return Ok(());
         }
         match self.pages.pop()? {
             Some((_, last)) => {
-                let open = replace(&mut self.open, Sheet::new(self.alloc));
-                self.open.share_all(last.entries())?;
-                self.open.share_all(open.entries())?;
+                let open = replace(&mut self.tail, Sheet::new(self.alloc));
+                self.tail.share_all(last.entries())?;
+                self.tail.share_all(open.entries())?;
                 Ok(())
             }
             None => Ok(()),
@@ -227,9 +227,9 @@ impl<K: Copy + Drop, V: Drop, C: Leaf<V>> Maker<K, V, C> {
         let Maker {
             alloc: _,
             mut pages,
-            open,
+            tail,
         } = self;
-        pages.push(open)?;
+        pages.push(tail)?;
         let chunks = pages.into_chunks()?;
         Ok(chunks)
     }

@@ -1,17 +1,18 @@
 //! A map in pages, sorted by key.
-ghost use Rattle.std.specs.Prelude.{◌≡◌, [], IfOk, IsTrue, ◌↔◌, length, map};
+ghost use Rattle.std.specs.Prelude.{◌≡◌, [], IfOk, OnOk, OnErr, IsTrue, ◌↔◌, length, map};
 ghost use Rattle.std.specs.Option.{option_copied, option_map};
 ghost use Rattle.std.specs.List.{AllByRecursion};
 ghost use Rattle.keyed.specs.Keyed.{Ascends, find};
 ghost use Rattle.paged.specs.Pairs.{key_of, value_of, both, first_above, first_of, within};
 ghost use Rattle.paged.specs.Parts.{HasHead, parts};
-ghost use Rattle.paged.specs.Changed.{changed};
+ghost use Rattle.paged.specs.Changed.{changed, changed_at};
 ghost use Rattle.paged.specs.Paged.{all_pairs, IsPaged};
 ghost use Rattle.paged.specs.Sizes.{Tells};
 ghost use Rattle.paged.specs.Walk.{from};
 
 use crate::binder::{Chunk, Chunks};
 use crate::changing::change_chunks;
+use crate::editing::edit_chunks;
 use crate::leaf::Leaf;
 use crate::maker::Maker;
 use crate::runs::Runs;
@@ -121,6 +122,45 @@ impl<K: Ord + Copy + Drop, V: Drop, C: Leaf<V>> Paged<K, V, C> {
     /// The pairs after these changes, each of which puts a value under its key or takes out what is
     /// there. What isn't changed is shared. Want of memory is the only error.
     pub fn with(&self, changes: &[(K, Option<C>)]) -> Result<Paged<K, V, C>, AllocError>
+        requires { Ascends K.cmp key_of changes.now }
+        ensures { IfOk result (λ next. all_pairs next ≡ changed K.cmp (option_map C.leaf_value) (all_pairs self.now) changes.now) }
+    {
+        let mut next = self.share()?;
+        for at in 0..changes.len() {
+            next.change_one(&changes[at..at + 1])?;
+        }
+        Ok(next)
+    }
+
+    /// Makes one change: puts the leaf under the key, or takes out what is there. Where nobody
+    /// shares the page, it is changed in place. Want of memory is the only error, and all is as
+    /// before then.
+    pub fn change(&mut self, key: K, leaf: Option<C>) -> Result<(), AllocError>
+        ensures ok { OnOk result (all_pairs self.new ≡ changed_at K.cmp (all_pairs self.old) key (option_map C.leaf_value leaf)) }
+        ensures err { OnErr result (self.new ≡ self.old) }
+    {
+        let mut change = Vec::new(self.alloc);
+        change.push((key, leaf))?;
+        self.change_one(change.as_slice())
+    }
+
+    /// Makes one change, in place where the sizes of pages allow it.
+    fn change_one(&mut self, change: &[(K, Option<C>)]) -> Result<(), AllocError>
+        requires { length change.now ≡ 1 }
+        ensures ok { OnOk result (all_pairs self.new ≡ changed K.cmp (option_map C.leaf_value) (all_pairs self.old) change.now) }
+        ensures err { OnErr result (self.new ≡ self.old) }
+    {
+        let (key, leaf) = &change[0];
+        if edit_chunks(self.alloc, &mut self.chunks, *key, leaf) {
+            return Ok(());
+        }
+        let next = self.remade(change)?;
+        *self = next;
+        Ok(())
+    }
+
+    /// The pairs after the changes, in pages that are made anew where they are touched.
+    fn remade(&self, changes: &[(K, Option<C>)]) -> Result<Paged<K, V, C>, AllocError>
         requires { Ascends K.cmp key_of changes.now }
         ensures { IfOk result (λ next. all_pairs next ≡ changed K.cmp (option_map C.leaf_value) (all_pairs self.now) changes.now) }
     {

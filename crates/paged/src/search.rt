@@ -1,7 +1,7 @@
 //! Binary searches in pairs of a key and something else, in the order of their keys.
 ghost use Rattle.std.specs.Prelude.{◌≡◌, ◌≤◌, ◌+◌, ℕ, Some, None, get_or, false, length, take, drop, IfOk, IfErr};
 ghost use Rattle.std.specs.declared.cmp.Ordering.TheVariants.{Less};
-ghost use Rattle.std.specs.Ordering.{is_lt};
+ghost use Rattle.std.specs.Ordering.{is_lt, is_gt};
 ghost use Rattle.std.specs.List.{AllByRecursion};
 ghost use Rattle.keyed.specs.Keyed.{Ascends};
 ghost use Rattle.keyed.proofs.Places.{IsAt, IsGap};
@@ -53,6 +53,7 @@ pub(crate) fn count_up_to<K: Ord + Copy + Drop, C>(pairs: &[(K, C)], key: &K) ->
     ensures above { first_above K.cmp pairs.now key.now ≡ first_of (drop result pairs.now) }
     ensures none { result ≡ 0 → part_at K.cmp pairs.now key.now ≡ None }
     ensures part { (n : ℕ) (d : K × C) → result ≡ n + 1 → part_at K.cmp pairs.now key.now ≡ Some (get_or pairs.now n d).1 }
+    ensures up_to { (n : ℕ) (d : K × C) → result ≡ n + 1 → is_gt (K.cmp (get_or pairs.now n d).0 key.now) ≡ false }
     ensures whole { result ≡ 0 → parts_from K.cmp pairs.now key.now ≡ pairs.now }
     ensures from { (n : ℕ) → result ≡ n + 1 → parts_from K.cmp pairs.now key.now ≡ drop n pairs.now }
 {

@@ -12,7 +12,7 @@ use std::marker::{Model, PhantomData};
 /// Keys, each with a leaf. Contracts see the keys and the values.
 #[derive(Drop)]
 pub(crate) struct Sheet<K: Copy + Drop, V, C: Leaf<V>> {
-    entries: Vec<(K, C)>,
+    pub(crate) entries: Vec<(K, C)>,
     of: PhantomData<V>,
 }
 
