@@ -11,8 +11,9 @@ and its response:
     ! connection: close             fields of the response behind content-length
 
 `#a` stands for the id with these hexadecimal digits, in targets, fields, bodies and responses. `raw PYTHON` in place of the first
-line gives the whole request as an expression. `use NAME` sends the requests of another file first. `ends N` gives the exit status
-of the run, where it isn't 0; in a file `.runs` it counts for the blocks below it. Lines that begin with `--` are comments.
+line gives the whole request as an expression. `times N` as the first line of a block sends it N times, and `at` stands for 0, 1 and
+so on in its expressions. `use NAME` sends the requests of another file first. `ends N` gives the exit status of the run, where it
+isn't 0; in a file `.runs` it counts for the blocks below it. Lines that begin with `--` are comments.
 """
 import glob
 import http.client
@@ -29,8 +30,8 @@ def ids(text):
     return re.sub(r'#([0-9a-f]{1,32})\b', lambda m: m.group(1).zfill(32), text)
 
 
-def value_of(expression):
-    value = eval(expression, {'ids': ids, **NAMES})
+def value_of(expression, at):
+    value = eval(expression, {'ids': ids, 'at': at, **NAMES})
     return ids(value).encode() if isinstance(value, str) else value
 
 
@@ -38,7 +39,7 @@ def phrase(status):
     return {413: 'Payload Too Large'}.get(status, http.client.responses[status])
 
 
-def read_block(lines):
+def read_block(lines, at=0):
     """The bytes of a request, and those of its response."""
     raw = method = body = None
     fields, extra, status, reply = [], [], None, b''
@@ -49,11 +50,11 @@ def read_block(lines):
         elif line.startswith('! '):
             extra.append(line[2:])
         elif line.startswith('raw '):
-            raw = value_of(line[4:])
+            raw = value_of(line[4:], at)
         elif line.startswith('body '):
-            body = value_of(line[5:])
+            body = value_of(line[5:], at)
         elif line.startswith('reply '):
-            reply = value_of(line[6:])
+            reply = value_of(line[6:], at)
         elif line[0] in '[{':
             body = (body or b'') + ids(line).encode()
         elif method is None:
@@ -86,7 +87,8 @@ def read_file(path):
             elif line.strip():
                 block.append(line)
             elif block:
-                cases.append((block[0],) + read_block(block))
+                times = int(block.pop(0)[6:]) if block[0].startswith('times ') else 1
+                cases += [(block[0],) + read_block(block, at) for at in range(times)]
                 block = []
     return cases, ends
 

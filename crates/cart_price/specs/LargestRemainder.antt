@@ -1,8 +1,14 @@
 -- An amount shared among tax rates by the largest remainder. Rates have bases; amounts are in minor units.
-use Rattle.std.specs.Prelude.{◌≡◌, ◌≤◌, ℕ, ◌+◌, ◌-◌, ◌*◌, ◌/◌, ◌%◌, ℤ, pos, ◌≤ℤ◌, unsigned_abs, Bool, nat_lt, ◌||◌, ◌&&◌, ◌==◌, if◌then◌else◌, ◌⊎◌, List, map, sum_by, count_by, sum}
+use Rattle.std.specs.Prelude.{◌≡◌, ◌≤◌, ℕ, ◌+◌, ◌-◌, ◌*◌, ◌/◌, ◌%◌, ℤ, pos, ◌≤ℤ◌, unsigned_abs, Bool, nat_lt, ◌||◌, ◌&&◌, ◌==◌, if◌then◌else◌, ◌⊎◌, List, [], map, sum_by, count_by, sum}
 use Rattle.std.specs.Int.{abs_diff}
+use Rattle.std.specs.declared.vec.Vec.{Vec}
+use Rattle.std.specs.Vec.{vec_len, vec_capacity}
 use Rattle.std.specs.List.{AllZip}
 use Rattle.cart_price.specs.declared.shares.Claim.{Claim}
+
+-- no items yet, and room for so many
+abbrev pub IsRoom : {A Z : Type 0} → ℕ → Vec A Z → Type 0
+IsRoom count items = (items.items ≡ []) × (vec_len items ≡ 0) × (count ≤ vec_capacity items)
 
 -- the sum of what stands beside the rates
 abbrev pub total : List (ℕ × ℤ) → ℕ

@@ -1,5 +1,6 @@
 //! An amount shared among tax rates.
-ghost use Rattle.std.specs.Prelude.{◌≡◌, ◌≤◌, ◌<◌, ◌^◌, pos, ◌≤ℤ◌, map, sum_by, unsigned_abs, All, IfOk, length};
+ghost use Rattle.std.specs.Prelude.{◌≡◌, ◌≤◌, ◌<◌, ◌^◌, ◌+◌, ◌++◌, ◌∷◌, [], pos, ◌≤ℤ◌, map, sum_by, unsigned_abs, All, IfOk, OnErr, length};
+ghost use Rattle.std.specs.Vec.{vec_len, vec_capacity};
 ghost use Rattle.std.specs.List.{AllZip};
 ghost use Rattle.std.specs.Ordering.{nat_cmp};
 ghost use Rattle.keyed.specs.Keyed.{Ascends};
@@ -70,20 +71,58 @@ pub fn share(alloc: Global, amount: i64, bases: &[(u32, i64)]) -> Result<List<(u
     ensures floors { IfOk result (λ parts. AllZip (spec.IsFloorOrNext (unsigned_abs amount) (spec.total bases.now)) parts bases.now) }
     // No other sharing by whole units has a smaller largest deviation from the exact shares.
     ensures fairest { IfOk result (λ parts. spec.IsFairest (unsigned_abs amount) bases.now (map (λ part. unsigned_abs part.1) parts)) }
+    // Without rates no memory is wanted.
+    ensures wanted { OnErr result (0 < length bases.now) }
 {
-    Ok(List::from_vec(shares_of(alloc, amount.unsigned_abs(), bases)?))
+    let room = Room::of(alloc, bases.len())?;
+    Ok(List::from_vec(shares_in(room, amount.unsigned_abs(), bases)))
 }
 
-/// The amount shared among the rates.
-fn shares_of(alloc: Global, amount: u64, bases: &[(u32, i64)]) -> Result<Vec<(u32, i64)>, NoMemory>
+/// Room for the claims and the parts of so many rates. Asking for it is all that can be refused.
+#[derive(Drop)]
+struct Room {
+    claims: Vec<Claim>,
+    parts: Vec<(u32, i64)>,
+}
+
+impl Room {
+    fn of(alloc: Global, rates: usize) -> Result<Room, NoMemory>
+        ensures claims { IfOk result (λ room. spec.IsRoom rates room.claims) }
+        ensures parts { IfOk result (λ room. spec.IsRoom rates room.parts) }
+        ensures wanted { OnErr result (0 < rates) }
+    {
+        Ok(Room {
+            claims: Vec::with_capacity(alloc, rates)?,
+            parts: Vec::with_capacity(alloc, rates)?,
+        })
+    }
+}
+
+/// The amount shared among the rates, where there is room.
+fn shares_in(room: Room, amount: u64, bases: &[(u32, i64)]) -> Vec<(u32, i64)>
+    requires claims { spec.IsRoom (length bases.now) room.claims }
+    requires parts { spec.IsRoom (length bases.now) room.parts }
     requires ascend { Ascends nat_cmp (λ base. base.0) bases.now }
     requires most { amount ≤ spec.total bases.now }
     requires fits { amount < 2 ^ 63 }
-    ensures { IfOk result (λ parts. parts.items ≡ spec.shares amount bases.now) }
+    ensures { result.items ≡ spec.shares amount bases.now }
 {
-    let claims = claims_of(alloc, amount, bases)?;
+    let Room { claims, parts } = room;
+    let claims = claims_in(claims, amount, bases);
     let left = left_of(amount, claims.as_slice());
-    parts_of(alloc, claims.as_slice(), left)
+    parts_in(parts, claims.as_slice(), left)
+}
+
+fn push_in_room<T: Drop>(items: &mut Vec<T>, item: T)
+    requires { vec_len items.old < vec_capacity items.old }
+    ensures items { items.new.items ≡ items.old.items ++ item ∷ [] }
+    ensures len { vec_len items.new ≡ vec_len items.old + 1 }
+    ensures capacity { vec_capacity items.old ≤ vec_capacity items.new }
+{
+    match items.push(item) {
+        Ok(()) => {}
+        Err(_) => unreachable!(),
+    }
 }
 
 /// The sum of the bases.
@@ -98,16 +137,16 @@ pub(crate) fn total_of(bases: &[(u32, i64)]) -> u128
 }
 
 /// The claims of all rates, in their order.
-fn claims_of(alloc: Global, amount: u64, bases: &[(u32, i64)]) -> Result<Vec<Claim>, NoMemory>
-    requires { amount ≤ spec.total bases.now }
-    ensures { IfOk result (λ claims. claims.items ≡ spec.claims_of amount bases.now) }
+fn claims_in(mut claims: Vec<Claim>, amount: u64, bases: &[(u32, i64)]) -> Vec<Claim>
+    requires room { spec.IsRoom (length bases.now) claims }
+    requires most { amount ≤ spec.total bases.now }
+    ensures { result.items ≡ spec.claims_of amount bases.now }
 {
     let whole = total_of(bases);
-    let mut claims = Vec::with_capacity(alloc, bases.len())?;
     for base in bases {
-        claims.push(Claim::new(amount, whole, *base))?;
+        push_in_room(&mut claims, Claim::new(amount, whole, *base));
     }
-    Ok(claims)
+    claims
 }
 
 /// The units that are left once each claim has its whole ones.
@@ -138,13 +177,13 @@ fn part(claims: &[Claim], left: u64, at: &Claim) -> i64
 }
 
 /// The parts of all claims, in their order.
-fn parts_of(alloc: Global, claims: &[Claim], left: u64) -> Result<Vec<(u32, i64)>, NoMemory>
-    requires { All (λ at. spec.part claims.now left at < 2 ^ 63) claims.now }
-    ensures { IfOk result (λ parts. parts.items ≡ map (λ at. (at.rate, pos (spec.part claims.now left at))) claims.now) }
+fn parts_in(mut parts: Vec<(u32, i64)>, claims: &[Claim], left: u64) -> Vec<(u32, i64)>
+    requires room { spec.IsRoom (length claims.now) parts }
+    requires fit { All (λ at. spec.part claims.now left at < 2 ^ 63) claims.now }
+    ensures { result.items ≡ map (λ at. (at.rate, pos (spec.part claims.now left at))) claims.now }
 {
-    let mut parts = Vec::with_capacity(alloc, claims.len())?;
     for at in claims {
-        parts.push((at.rate, part(claims, left, at)))?;
+        push_in_room(&mut parts, (at.rate, part(claims, left, at)));
     }
-    Ok(parts)
+    parts
 }

@@ -51,3 +51,16 @@ taken_all whole taken (offer ∷ offers) is = taken_all whole (take_off taken of
 -- so with all offers
 pub discounts-within : (left : ℕ) (offers : List Offer) → IsTakenOff left (take_all left offers)
 discounts-within left offers = taken_all left (record { left = left; discounts = [] }) offers (record { sum = omega arith; above = tt; most = omega arith })
+
+-- an offer more takes no discount back
+no-fewer : (taken : Taken) (offer : Offer) → length taken.discounts ≤ length (take_off taken offer).discounts
+unfolding take_off
+no-fewer taken offer = by ((taken_off offer.reduction taken.left == 0) || nat_le 50 (length taken.discounts))
+  where
+    by : (none : Bool) → length taken.discounts ≤ length (if none then taken else record { left = taken.left - taken_off offer.reduction taken.left; discounts = taken.discounts ++ (discount_of offer (taken_off offer.reduction taken.left) ∷ []) }).discounts
+    by true = omega arith
+    by false = omega (arith, length-append taken.discounts (discount_of offer (taken_off offer.reduction taken.left) ∷ []))
+
+pub none-taken-back : (taken : Taken) (offers : List Offer) → length taken.discounts ≤ length (fold take_off taken offers).discounts
+none-taken-back taken [] = omega arith
+none-taken-back taken (offer ∷ offers) = omega (arith, no-fewer taken offer, none-taken-back (take_off taken offer) offers)

@@ -13,7 +13,7 @@ use Rattle.keyed.proofs.Changes.{ascends_put, find_put}
 use Rattle.cart_price.specs.declared.priced.TaxState.{TaxState}
 use Rattle.cart_sums.specs.declared.sums.RateSum.{RateSum}
 use Rattle.cart_sums.specs.Fits.{AreSums, Fits, Grows, Shrinks}
-use Rattle.cart_sums.specs.Sums.{add_at, empty, left_at, less, plus, plus_of, rate_key, sum_at, take_at}
+use Rattle.cart_sums.specs.Sums.{IsNew, add_at, empty, left_at, less, plus, plus_of, rate_key, sum_at, take_at}
 use Rattle.cart_sums.specs.Taxes.{most}
 use Rattle.cart_sums.proofs.Sizes.{tax_on-bound}
 
@@ -196,3 +196,11 @@ take-left state sums rate amount within =
     let y : RateSum = less state at amount in
     let here : sum_at (put nat_cmp rate_key sums y) rate ≡ y = rw (find_put nat_cmp rate_key nat_cmp_total sums y rate, sum_at-rate sums rate, cmp_same rate) refl in
     rw here (omega (arith, within))
+
+-- a rate at which something was taken off has a position
+pub take-there : (state : TaxState) (sums : List RateSum) (rate amount : ℕ) → IsNew (take_at state sums rate amount) rate → ⊥
+take-there state sums rate amount new =
+    let y : RateSum = less state (sum_at sums rate) amount in
+    let here : found (put nat_cmp rate_key sums y) rate ≡ Some y = rw (find_put nat_cmp rate_key nat_cmp_total sums y rate, sum_at-rate sums rate, cmp_same rate) refl in
+    let both : Some y ≡ None = sym here ∙ new in
+    absurd cc

@@ -1,5 +1,5 @@
 -- What is left at each rate once an amount is shared among them.
-use Rattle.std.proofs.Common.{◌≡◌, ℕ, ◌+◌, ◌-◌, ◌*◌, ◌^◌, ◌≤◌, ℤ, pos, ◌≤ℤ◌, List, [], ◌∷◌, map, refl, sym, ap, ◌∙◌, arith}
+use Rattle.std.proofs.Common.{◌≡◌, ℕ, ◌+◌, ◌-◌, ◌*◌, ◌^◌, ◌≤◌, ℤ, pos, ◌≤ℤ◌, suc, List, [], ◌∷◌, length, map, refl, sym, ap, ◌∙◌, arith}
 use Rattle.std.specs.Prelude.{unsigned_abs, sum_by}
 use Rattle.std.specs.declared.cmp.Ordering.TheVariants.{Less}
 use Rattle.std.specs.List.{AllByRecursion, AllZip}
@@ -126,3 +126,8 @@ left-most sums are = let part = left-part sums in omega (arith, part, are.most)
     left-part : (sums : List RateSum) → sum_by left_at sums ≤ sum_by plus_of sums
     left-part [] = omega arith
     left-part (at ∷ sums) = rw (sum_by-cons left_at at sums, sum_by-cons plus_of at sums) (omega (arith, left-part sums))
+
+pub less-length : (state : TaxState) (sums : List RateSum) (parts : List (ℕ × ℤ)) → length (bear_less state sums parts) ≡ length sums
+less-length state [] parts = refl
+less-length state (at ∷ sums) [] = refl
+less-length state (at ∷ sums) (part ∷ parts) = ap suc (less-length state sums parts)

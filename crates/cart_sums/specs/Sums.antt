@@ -1,5 +1,5 @@
 -- How positions are kept: the sums at each rate, what is added and what is taken off apart.
-use Rattle.std.specs.Prelude.{ℕ, ◌+◌, ◌-◌, min, ℤ, pos, negsuc, suc, unsigned_abs, List, [], ◌∷◌, map, sum_by, unwrap_or}
+use Rattle.std.specs.Prelude.{◌≡◌, None, ℕ, ◌+◌, ◌-◌, min, ℤ, pos, negsuc, suc, unsigned_abs, List, [], ◌∷◌, map, sum_by, unwrap_or}
 use Rattle.std.specs.List.{fold}
 use Rattle.std.specs.Ordering.{nat_cmp}
 use Rattle.keyed.specs.Keyed.{find, put}
@@ -63,6 +63,10 @@ empty rate = record { rate = rate; plus = 0; minus = 0; plus_tax = 0; minus_tax 
 
 abbrev pub sum_at : List RateSum → ℕ → RateSum
 sum_at sums rate = unwrap_or (find nat_cmp rate_key sums rate) (empty rate)
+
+-- there is no position at the rate
+abbrev pub IsNew : List RateSum → ℕ → Type 0
+IsNew sums rate = find nat_cmp rate_key sums rate ≡ None
 
 abbrev pub add_at : TaxState → List RateSum → ℕ → ℕ → List RateSum
 add_at state sums rate amount = put nat_cmp rate_key sums (plus state (sum_at sums rate) amount)

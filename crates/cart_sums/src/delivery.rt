@@ -1,5 +1,5 @@
 //! Discounts on a delivery: each is taken off at the delivery's tax rate.
-ghost use Rattle.std.specs.Prelude.{◌≡◌, ◌≤◌, ◌++◌, IfOk};
+ghost use Rattle.std.specs.Prelude.{◌≡◌, ◌≤◌, ◌++◌, IfOk, OnErr};
 ghost use Rattle.cart_sums.specs.Discounts.{total_off};
 ghost use Rattle.cart_sums.specs.Fits.{AreSums, Shrinks};
 ghost use Rattle.cart_sums.specs.Positions.{Positions, taken_at};
@@ -24,6 +24,8 @@ pub fn take_delivery(
     requires within { total_off discounts.now ≤ left_at (sum_at sums.list rate) }
     ensures value { IfOk result (λ after. after.list ≡ spec.take_delivery state sums.list rate discounts.now) }
     ensures shrinks { IfOk result (λ after. Shrinks sums.list after.list (total_off discounts.now)) }
+    // Memory is wanted only for the first position at the rate.
+    ensures wanted { OnErr result (spec.IsNew sums.list rate) }
     ensures positions { IfOk result (λ after. (positions : Positions) → sums.list ≡ sums_of state positions → after.list ≡ sums_of state (positions ++ taken_at rate discounts.now)) }
 {
     let mut after = sums;

@@ -1,5 +1,5 @@
 //! What offers take off an amount, one after the other.
-ghost use Rattle.std.specs.Prelude.{◌≡◌, ◌≤◌, ◌*◌, min, pos, IfOk};
+ghost use Rattle.std.specs.Prelude.{◌≡◌, ◌≤◌, ◌<◌, ◌*◌, length, min, pos, IfOk, OnErr};
 ghost use Rattle.std.specs.List.{fold};
 ghost use Rattle.cart_price.specs.Nearest.{half_up};
 ghost use Rattle.cart_sums.specs.Taxes.{most};
@@ -49,6 +49,8 @@ pub fn take_all(alloc: Global, left: u64, offers: &[Offer]) -> Result<Taken, NoM
     ensures value { IfOk result (λ taken. taken ≡ spec.take_all left offers.now) }
     // Each discount is above 0, there are at most 50, and with what is left they are what was there.
     ensures within { IfOk result (spec.IsTakenOff left) }
+    // Where nothing is taken off no memory is wanted.
+    ensures wanted { OnErr result (0 < length (spec.take_all left offers.now).discounts) }
 {
     let mut taken = Taken {
         left,
@@ -68,6 +70,7 @@ fn take_off(taken: Taken, offer: &Offer) -> Result<Taken, NoMemory>
     requires left { taken.left ≤ most }
     ensures value { IfOk result (λ after. after ≡ spec.take_off taken offer.now) }
     ensures left { IfOk result (λ after. after.left ≤ taken.left) }
+    ensures wanted { OnErr result (0 < length (spec.take_off taken offer.now).discounts) }
 {
     let amount = taken_off(&offer.reduction, taken.left);
     if amount == 0 || MOST_DISCOUNTS <= taken.discounts.len() {

@@ -1,5 +1,5 @@
 //! Discounts on goods: each is shared among the tax rates by what is left at each.
-ghost use Rattle.std.specs.Prelude.{◌≡◌, ◌≤◌, sum_by, IfOk};
+ghost use Rattle.std.specs.Prelude.{◌≡◌, ◌≤◌, ◌<◌, length, sum_by, IfOk, OnErr};
 ghost use Rattle.std.specs.List.{AllByRecursion, AllZip};
 ghost use Rattle.cart_price.specs.LargestRemainder.{IsPartOf};
 ghost use Rattle.cart_sums.specs.Discounts.{total_off};
@@ -26,6 +26,8 @@ pub fn take_goods(
     requires within { total_off discounts.now ≤ sum_by left_at sums.list }
     ensures value { IfOk result (λ after. after.list ≡ spec.take_goods state sums.list discounts.now) }
     ensures shrinks { IfOk result (λ after. Shrinks sums.list after.list (total_off discounts.now)) }
+    // Without discounts, and without rates, no memory is wanted.
+    ensures wanted { OnErr result ((0 < length discounts.now) × (0 < length sums.list)) }
     ensures positions { IfOk result (λ after. (positions : Positions) → sums.list ≡ sums_of state positions → after.list ≡ sums_of state (goods_less positions discounts.now)) }
 {
     let mut after = sums;
@@ -48,6 +50,8 @@ fn take_shared(
     requires within { amount ≤ sum_by left_at sums.now.list }
     ensures value { IfOk result (λ after. after.list ≡ spec.take_shared state sums.now.list amount) }
     ensures shrinks { IfOk result (λ after. Shrinks sums.now.list after.list amount) }
+    ensures length { IfOk result (λ after. length after.list ≡ length sums.now.list) }
+    ensures wanted { OnErr result (0 < length sums.now.list) }
 {
     let bases = bases_of(alloc, sums.as_slice())?;
     let parts = share(alloc, amount as i64, bases.as_slice())?;
@@ -58,7 +62,8 @@ fn take_shared(
 /// What is left at each rate.
 fn bases_of(alloc: Global, sums: &[RateSum]) -> Result<Vec<(u32, i64)>, AllocError>
     requires { AllByRecursion Fits sums.now }
-    ensures { IfOk result (λ found. found.items ≡ bases sums.now) }
+    ensures bases { IfOk result (λ found. found.items ≡ bases sums.now) }
+    ensures wanted { OnErr result (0 < length sums.now) }
 {
     let mut found = Vec::with_capacity(alloc, sums.len())?;
     let mut rest = sums;
@@ -78,7 +83,8 @@ fn all_less(
 ) -> Result<Vec<RateSum>, AllocError>
     requires fit { AllByRecursion Fits sums.now }
     requires parts { AllZip IsPartOf parts.now (bases sums.now) }
-    ensures { IfOk result (λ found. found.items ≡ bear_less state sums.now parts.now) }
+    ensures less { IfOk result (λ found. found.items ≡ bear_less state sums.now parts.now) }
+    ensures wanted { OnErr result (0 < length sums.now) }
 {
     let mut found = Vec::with_capacity(alloc, sums.len())?;
     let mut at = sums;

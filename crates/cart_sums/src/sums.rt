@@ -1,5 +1,5 @@
 //! What the positions at each tax rate come to, one position more at a time.
-ghost use Rattle.std.specs.Prelude.{◌≡◌, ◌+◌, ◌≤◌, pos, neg_ℤ, [], ◌∷◌, ◌++◌, sum_by, IfOk};
+ghost use Rattle.std.specs.Prelude.{◌≡◌, ◌+◌, ◌≤◌, pos, neg_ℤ, [], ◌∷◌, ◌++◌, sum_by, IfOk, OnErr};
 ghost use Rattle.cart_sums.specs.Fits.{AreSums, Fits, Grows, Shrinks};
 ghost use Rattle.cart_sums.specs.Taxes.{most};
 ghost use Rattle.cart_sums.specs.Positions.{Positions};
@@ -55,6 +55,8 @@ pub fn add_at(
     ensures grows { IfOk result (λ after. Grows sums.list after.list amount) }
     ensures left { IfOk result (λ after. left_at (spec.sum_at after.list rate) ≡ left_at (spec.sum_at sums.list rate) + amount) }
     ensures positions { IfOk result (λ after. (positions : Positions) → sums.list ≡ sums_of state positions → after.list ≡ sums_of state (positions ++ (rate, pos amount) ∷ [])) }
+    // Memory is wanted only for the first position at a rate.
+    ensures wanted { OnErr result (spec.IsNew sums.list rate) }
 {
     let at = sum_at(&sums, rate);
     let mut after = sums;
@@ -77,6 +79,8 @@ pub(crate) fn take_at(
     ensures shrinks { IfOk result (λ after. Shrinks sums.list after.list amount) }
     ensures left { IfOk result (λ after. left_at (spec.sum_at after.list rate) + amount ≡ left_at (spec.sum_at sums.list rate)) }
     ensures positions { IfOk result (λ after. (positions : Positions) → sums.list ≡ sums_of state positions → after.list ≡ sums_of state (positions ++ (rate, neg_ℤ (pos amount)) ∷ [])) }
+    ensures new { IfOk result (λ after. spec.IsNew after.list rate → spec.IsNew sums.list rate) }
+    ensures wanted { OnErr result (spec.IsNew sums.list rate) }
 {
     let at = sum_at(&sums, rate);
     let mut after = sums;

@@ -1,5 +1,5 @@
 //! The taxes of what a cart comes to.
-ghost use Rattle.std.specs.Prelude.{◌≡◌, ◌≤◌, IfOk};
+ghost use Rattle.std.specs.Prelude.{◌≡◌, ◌≤◌, ◌<◌, length, IfOk, OnErr};
 ghost use Rattle.std.specs.List.{AllByRecursion};
 ghost use Rattle.cart_sums.specs.Fits.{AreSums, AreTaxed, Fits};
 ghost use Rattle.cart_sums.specs.Taxes.{most};
@@ -27,6 +27,8 @@ pub fn tax_sums(
     ensures value { IfOk result (λ taxes. taxes ≡ spec.tax_sums state mode sums.now.list) }
     // Rates ascend, each tax is from 0 to its amount, and in a vertical cart it is the tax of its amount.
     ensures taxed { IfOk result (AreTaxed state mode sums.now.list) }
+    // Without rates no memory is wanted.
+    ensures wanted { OnErr result (0 < length sums.now.list) }
     ensures positions { IfOk result (λ taxes. (given : Positions) → sums.now.list ≡ sums_of state given → taxes ≡ direct.tax_sums state mode given) }
 {
     let taxes = taxes_of(alloc, state, mode, sums.as_slice())?;
@@ -40,7 +42,8 @@ fn taxes_of(
     sums: &[RateSum],
 ) -> Result<Vec<TaxSum>, AllocError>
     requires { AllByRecursion Fits sums.now }
-    ensures { IfOk result (λ taxes. taxes.items ≡ spec.tax_sums state mode sums.now) }
+    ensures value { IfOk result (λ taxes. taxes.items ≡ spec.tax_sums state mode sums.now) }
+    ensures wanted { OnErr result (0 < length sums.now) }
 {
     let mut taxes = Vec::with_capacity(alloc, sums.len())?;
     let mut rest = sums;

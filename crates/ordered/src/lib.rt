@@ -6,7 +6,7 @@
 //! - `reserve` makes room; `put_in_room` is `put`, takes no memory and can't fail.
 #![tactic(auto)]
 
-ghost use Rattle.std.specs.Prelude.{◌≡◌, ◌≤◌, ◌+◌, ◌-◌, [], IfOk, IfErr, OnOk, OnErr};
+ghost use Rattle.std.specs.Prelude.{◌≡◌, ◌≤◌, ◌<◌, ◌+◌, ◌-◌, [], IfOk, IfErr, None, OnOk, OnErr};
 ghost use Rattle.std.specs.Option.{option_copied};
 ghost use Rattle.std.specs.Vec.{vec_len, vec_capacity};
 ghost use Rattle.std.specs.List.{insert};
@@ -121,6 +121,8 @@ impl<T: Entry> Ordered<T> {
     pub fn put(&mut self, item: T) -> Result<(), AllocError>
         ensures ok { OnOk result (self.new.list ≡ put T.Key.cmp T.key_of self.old.list item) }
         ensures err { OnErr result (self.new.list ≡ self.old.list) }
+        // Memory is wanted only where no element has the key and there is no room.
+        ensures wanted { OnErr result ((self.old.spare ≡ 0) × (find T.Key.cmp T.key_of self.old.list (T.key_of item) ≡ None)) }
     {
         match self.search(&item.key()) {
             Ok(at) => {
@@ -135,6 +137,8 @@ impl<T: Entry> Ordered<T> {
     pub fn reserve(&mut self, more: usize) -> Result<(), AllocError>
         ensures list { self.new.list ≡ self.old.list }
         ensures spare { OnOk result (more ≤ self.new.spare) }
+        // Memory is wanted only where there is less room.
+        ensures wanted { OnErr result (self.old.spare < more) }
         ensures ascends { Ascends T.Key.cmp T.key_of self.new.list }
     {
         self.items.reserve(more)

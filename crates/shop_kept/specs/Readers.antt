@@ -15,6 +15,12 @@ abbrev pub Fails : {Y : Type 0} → DecodeFault → Option Y → Type 0
 Fails faults.Malformed read = read ≡ None
 Fails faults.NoMemory read = Unit {0}
 
+-- where memory was wanted and refused, P holds
+abbrev pub OnWant : {X : Type 0} → Result X DecodeFault → Type 0 → Type 0
+OnWant (Ok x) P = Unit {0}
+OnWant (Err faults.Malformed) P = Unit {0}
+OnWant (Err faults.NoMemory) P = P
+
 abbrev pub Gives : {X Y : Type 0} → (X → Y) → Result X DecodeFault → Option Y → Type 0
 Gives view (Ok x) read = read ≡ Some (view x)
 Gives view (Err e) read = Fails e read
@@ -56,6 +62,14 @@ many_at read (suc n) bytes = read bytes >>= λ a. many_at read n a.1 >>= λ othe
 -- a count, and that many
 abbrev pub counted_at : {A : Type 0} → Reader ℕ → Reader A → Reader (List A)
 counted_at count read bytes = count bytes >>= λ n. many_at read n.0 n.1
+
+abbrev pub first_or_zero : Option (ℕ × List ℕ) → ℕ
+first_or_zero (Some n) = n.0
+first_or_zero None = 0
+
+-- what a count at the front says: 0 where there is none
+abbrev pub count_said : Reader ℕ → List ℕ → ℕ
+count_said count bytes = first_or_zero (count bytes)
 
 -- a length, and a text of that many bytes
 abbrev pub text_at : Reader (List ℕ)

@@ -1,5 +1,5 @@
 -- How a row is read from bytes. It need not be believed: `Laws.antt` says that it reads the spellings of rows and nothing else.
-use Rattle.std.specs.Prelude.{◌==◌, ℕ, zero, suc, true, false, List, [], ◌∷◌, Option, Some, None, if◌then◌else◌}
+use Rattle.std.specs.Prelude.{◌==◌, ◌<◌, ℕ, zero, suc, true, false, List, [], ◌∷◌, Option, Some, None, if◌then◌else◌}
 use Rattle.std.specs.Int.{w32, w64, w128, cast_signed}
 use Rattle.std.specs.List.{find}
 use Rattle.std.specs.Option.{option_map}
@@ -14,7 +14,7 @@ use Rattle.shop_defs.specs.declared.op.OpKind.{OpKind}
 use Rattle.shop_defs.specs.declared.op.OpKind.TheVariants.{Upsert, Delete}
 use Rattle.shop_defs.specs.declared.value.Value.{Value}
 use Rattle.shop_defs.specs.declared.value.Value.TheVariants as V
-use Rattle.shop_kept.specs.Readers.{Reader, ◌>>=◌, byte_at, number_at, text_at, pair_at, as_at, such_at, choice_at, counted_at, whole}
+use Rattle.shop_kept.specs.Readers.{Reader, ◌>>=◌, byte_at, number_at, text_at, pair_at, as_at, such_at, choice_at, counted_at, count_said, whole}
 use Rattle.shop_kept.specs.Spelling.{rises}
 
 abbrev pub value_at : Reader Value
@@ -77,6 +77,15 @@ row_parts [] = None
 row_parts (zero ∷ bytes) = None
 row_parts (suc zero ∷ bytes) = whole body_at bytes
 row_parts (suc (suc format) ∷ bytes) = None
+
+-- the bytes begin with the number of the format and count a field or, without fields, an operation
+abbrev pub CountParts : List ℕ → Type 0
+CountParts [] = ⊥
+CountParts (zero ∷ bytes) = ⊥
+CountParts (suc zero ∷ []) = ⊥
+CountParts (suc zero ∷ zero ∷ bytes) = 0 < count_said (number_at w32) bytes
+CountParts (suc zero ∷ suc fields ∷ bytes) = Unit {0}
+CountParts (suc (suc format) ∷ bytes) = ⊥
 
 -- the row of that key that the bytes spell
 abbrev pub read_kept : Key → List ℕ → Option Row

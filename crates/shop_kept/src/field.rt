@@ -1,6 +1,6 @@
 //! Fields: each its number and what stands beside it, by ascending number.
-ghost use Rattle.std.specs.Prelude.{◌≡◌, ◌++◌, OnOk};
-ghost use Rattle.shop_kept.specs.Readers.{Gives};
+ghost use Rattle.std.specs.Prelude.{◌≡◌, ◌<◌, ◌++◌, OnOk};
+ghost use Rattle.shop_kept.specs.Readers.{Gives, OnWant, byte_at, count_said};
 ghost use Rattle.shop_kept.specs.Spelling.{kept_field, kept_fields, rises, FitsField, FitFields, IsField, AreFields};
 ghost use Rattle.shop_kept.specs.Reading.{field_at, fields_at};
 
@@ -77,7 +77,8 @@ pub(crate) fn read_fields<T: Spelled>(
     alloc: Global,
     bytes: &[u8],
 ) -> Result<(List<(u8, T)>, &[u8]), DecodeFault>
-    ensures { Gives (λ x. (x.0, x.1.now)) result (fields_at T.read_at bytes.now) }
+    ensures given { Gives (λ x. (x.0, x.1.now)) result (fields_at T.read_at bytes.now) }
+    ensures wanted { OnWant result (0 < count_said byte_at bytes.now) }
 {
     let (count, rest) = read_byte(bytes)?;
     let (fields, rest): (List<(u8, T)>, &[u8]) = read_many(alloc, count as u32, LEAST, rest)?;

@@ -1,6 +1,7 @@
 //! Operations: kind, entity, id, second part and the fields that are given.
-ghost use Rattle.std.specs.Prelude.{◌≡◌, ◌++◌, OnOk};
-ghost use Rattle.shop_kept.specs.Readers.{Gives};
+ghost use Rattle.std.specs.Prelude.{◌≡◌, ◌<◌, ◌++◌, OnOk};
+ghost use Rattle.std.specs.Int.{w32};
+ghost use Rattle.shop_kept.specs.Readers.{Gives, OnWant, count_said, number_at};
 ghost use Rattle.shop_kept.specs.Spelling.{kept_op, kept_ops, kind_number, FitsOp, FitOps, IsOp, AreOps};
 ghost use Rattle.shop_kept.specs.Reading as spec;
 
@@ -136,7 +137,8 @@ pub(crate) fn write_ops(ops: &[Op], out: &mut Vec<u8>) -> Result<(), NoMemory>
 
 /// The operations at the front of the bytes, and the bytes after them.
 pub(crate) fn read_ops(alloc: Global, bytes: &[u8]) -> Result<(List<Op>, &[u8]), DecodeFault>
-    ensures { Gives (λ x. (x.0, x.1.now)) result (spec.ops_at bytes.now) }
+    ensures given { Gives (λ x. (x.0, x.1.now)) result (spec.ops_at bytes.now) }
+    ensures wanted { OnWant result (0 < count_said (number_at w32) bytes.now) }
 {
     let (count, rest) = read_u32(bytes)?;
     Ok(read_many(alloc, count, LEAST, rest)?)

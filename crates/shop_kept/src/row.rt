@@ -1,9 +1,9 @@
 //! Rows: the number of the format, the fields and the operations.
 ghost use Rattle.std.specs.Prelude.{◌≡◌, IfOk, Some};
 ghost use Rattle.shop_defs.specs.declared.row.Row.{Row};
-ghost use Rattle.shop_kept.specs.Readers.{Gives};
+ghost use Rattle.shop_kept.specs.Readers.{Gives, OnWant};
 ghost use Rattle.shop_kept.specs.Spelling.{kept_row, FitsRow, IsKeptRow};
-ghost use Rattle.shop_kept.specs.Reading.{row_parts, read_kept};
+ghost use Rattle.shop_kept.specs.Reading.{row_parts, read_kept, CountParts};
 ghost use Rattle.shop_kept.specs.Laws.{SpellingsDiffer, SpellingsAreRead, NothingElseIsRead};
 
 use crate::fault::DecodeFault;
@@ -36,7 +36,8 @@ pub fn encode_row(alloc: Global, row: &Row) -> Result<List<u8>, NoMemory>
 /// The row of that key whose spelling the bytes are, all of them.
 ///
 /// `Malformed` comes exactly where there is no such row, unless memory runs out before that is
-/// known. The other error is want of memory.
+/// known. Memory is taken for the fields first, then for the operations, each before it is read, so
+/// `NoMemory` comes only where the bytes begin with the number of the format and count one of these.
 pub fn decode_row(alloc: Global, key: &Key, bytes: &[u8]) -> Result<Row, DecodeFault>
     // What is read is a row of that key with these bytes.
     ensures found { IfOk result (λ row. (row.key ≡ key.now) × IsKeptRow row × (kept_row row ≡ bytes.now)) }
@@ -46,6 +47,8 @@ pub fn decode_row(alloc: Global, key: &Key, bytes: &[u8]) -> Result<Row, DecodeF
         → Gives (λ x. x) result (Some row) }
     // The same, by how bytes are read.
     ensures exact { Gives (λ x. x) result (read_kept key.now bytes.now) }
+    // Memory is wanted only where the bytes begin with the number of the format and count a field or, without fields, an operation.
+    ensures wanted { OnWant result (CountParts bytes.now) }
 {
     read_row(alloc, key, bytes)
 }
@@ -54,6 +57,7 @@ pub fn decode_row(alloc: Global, key: &Key, bytes: &[u8]) -> Result<Row, DecodeF
 fn read_row(alloc: Global, key: &Key, bytes: &[u8]) -> Result<Row, DecodeFault>
     ensures parts { Gives (λ row. (row.fields, row.ops)) result (row_parts bytes.now) }
     ensures key { IfOk result (λ row. row.key ≡ key.now) }
+    ensures wanted { OnWant result (CountParts bytes.now) }
 {
     match bytes {
         [1, rest @ ..] => {

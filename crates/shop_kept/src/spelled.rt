@@ -1,7 +1,7 @@
 //! What is written and read one after the other: values, fields and operations.
 ghost use Rattle.std.specs.Prelude.{◌≡◌, ◌<◌, ◌++◌, OnOk};
 ghost use Rattle.std.specs.List.{flat_map, AllByRecursion};
-ghost use Rattle.shop_kept.specs.Readers.{Gives, many_at};
+ghost use Rattle.shop_kept.specs.Readers.{Gives, OnWant, many_at};
 
 use crate::fault::DecodeFault;
 use shop_defs::{List, NoMemory};
@@ -66,7 +66,9 @@ pub(crate) fn read_many<T: Spelled>(
     bytes: &[u8],
 ) -> Result<(List<T>, &[u8]), DecodeFault>
     requires { 0 < least }
-    ensures { Gives (λ x. (x.0, x.1.now)) result (many_at T.read_at count bytes.now) }
+    ensures given { Gives (λ x. (x.0, x.1.now)) result (many_at T.read_at count bytes.now) }
+    // Of none no memory is wanted.
+    ensures wanted { OnWant result (0 < count) }
 {
     // No more room than the bytes can fill, whatever the count says.
     let room = (count as usize).min(bytes.len() / least);

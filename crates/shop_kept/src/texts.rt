@@ -1,8 +1,8 @@
 //! Texts: a length of 4 bytes, and that many bytes of UTF-8.
-ghost use Rattle.std.specs.Prelude.{◌≡◌, ◌<◌, ◌^◌, ◌++◌, length, true, false, OnOk, IfOk, IfErr};
+ghost use Rattle.std.specs.Prelude.{◌≡◌, ◌<◌, ◌^◌, ◌++◌, length, true, false, OnOk, IfOk, IfErr, IsSome};
 ghost use Rattle.std.specs.Str.{is_utf8};
 ghost use Rattle.shop_kept.specs.declared.fault.DecodeFault.TheVariants as F;
-ghost use Rattle.shop_kept.specs.Readers.{Gives, text_at};
+ghost use Rattle.shop_kept.specs.Readers.{Gives, OnWant, text_at};
 ghost use Rattle.shop_kept.specs.Spelling.{kept_text, IsText};
 
 use crate::fault::DecodeFault;
@@ -37,7 +37,9 @@ fn text_of(bytes: &[u8]) -> Result<&str, DecodeFault>
 
 /// The text at the front of the bytes, and the bytes after it.
 pub(crate) fn read_text(alloc: Global, bytes: &[u8]) -> Result<(Txt, &[u8]), DecodeFault>
-    ensures { Gives (λ x. (x.0, x.1.now)) result (text_at bytes.now) }
+    ensures given { Gives (λ x. (x.0, x.1.now)) result (text_at bytes.now) }
+    // Memory is wanted only for a text that is there whole.
+    ensures wanted { OnWant result (IsSome (text_at bytes.now)) }
 {
     let (length, rest) = read_u32(bytes)?;
     let length = length as usize;

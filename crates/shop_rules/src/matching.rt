@@ -1,5 +1,5 @@
 //! Which rules hold of a cart.
-ghost use Rattle.std.specs.Prelude.{◌≡◌, List as ListOf, map, IfOk};
+ghost use Rattle.std.specs.Prelude.{◌≡◌, ◌<◌, List as ListOf, length, map, IfOk, OnErr};
 ghost use Rattle.shop_defs.specs.declared.row.Row.{Row as RowOf};
 ghost use Rattle.shop_rules.specs.Days.{IsMoment};
 ghost use Rattle.shop_rules.specs.Ranking as spec;
@@ -23,6 +23,8 @@ pub fn matched(
     requires { IsMoment moment }
     ensures value { IfOk result (λ ids. ids ≡ spec.matched trees.now facts.now moment) }
     ensures ranked { IfOk result (spec.AreRanked trees.now facts.now moment) }
+    // Where no rule holds no memory is wanted.
+    ensures wanted { OnErr result (0 < length (spec.holding trees.now facts.now moment)) }
     // Where all live rules of some rows are handed in, with their priorities and conditions, they are
     // the rules of these rows that hold.
     ensures rows { (rows : ListOf RowOf) → trees.now ≡ spec.rules rows → IfOk result (λ ids. ids ≡ spec.matched_in rows facts.now moment) }
@@ -41,7 +43,8 @@ fn holding(
     moment: i64,
 ) -> Result<Vec<Ranked>, AllocError>
     requires { IsMoment moment }
-    ensures { IfOk result (λ ranked. ranked.items ≡ spec.holding trees.now facts.now moment) }
+    ensures rules { IfOk result (λ ranked. ranked.items ≡ spec.holding trees.now facts.now moment) }
+    ensures wanted { OnErr result (0 < length (spec.holding trees.now facts.now moment)) }
 {
     let mut ranked = Vec::new(alloc);
     for (id, priority, tree) in trees {
@@ -64,7 +67,11 @@ fn rank(ranked: &mut Vec<Ranked>)
 }
 
 fn ids_of(alloc: Global, ranked: &[Ranked]) -> Result<Vec<u128>, AllocError>
-    ensures { IfOk result (λ ids. ids.items ≡ map (λ rule. rule.id) ranked.now) }
+    ensures ids { IfOk result (λ ids. ids.items ≡ map (λ rule. rule.id) ranked.now) }
+    ensures wanted { OnErr result (0 < length ranked.now) }
 {
+    if ranked.is_empty() {
+        return Ok(Vec::new(alloc));
+    }
     ranked.iter().map(|rule| rule.id).collect(alloc)
 }

@@ -12,7 +12,7 @@ use Rattle.cart_price.proofs.shares.share.Goals as goal
 value : (c : goal.After-from_vec) → c.from_vec.result ≡ shares (unsigned_abs c.args.amount) c.args.bases.now
 value c =
     let size = rw (to_z-of_z w64 c.args.amount c.ranges.amount) at c.unsigned_abs.ensures.value in
-    c.from_vec.ensures ∙ c.in_ok-shares_of.ensures ∙ ap (λ (n : ℕ). shares n c.args.bases.now) size
+    c.from_vec.ensures ∙ c.shares_in.ensures ∙ ap (λ (n : ℕ). shares n c.args.bases.now) size
 
 within : (c : goal.After-from_vec) → unsigned_abs c.args.amount ≤ total c.args.bases.now
 within c = omega (arith, ints)

@@ -7,6 +7,8 @@ use Rattle.cart_sums.proofs.goods.take_goods.Given as goal
 
 abbrev pub invariant-loop-rest : goal.invariant-loop-rest
 invariant-loop-rest l = record {
+  within_discounts : length l.rest ≤ length l.discounts;
+  rates : length l.after.list ≡ length l.fn.sums.list;
   sums : AreSums l.after.list;
   within : total_off l.rest ≤ sum_by left_at l.after.list;
   done : take_goods l.state l.after.list l.rest ≡ take_goods l.state l.fn.sums.list l.discounts;

@@ -3,15 +3,15 @@ use Rattle.std.proofs.lemmas.Grind.{common_steps}
 use Rattle.cart_price.specs.declared.shares.Claim.{Claim}
 use Rattle.cart_price.specs.LargestRemainder.{part, left_of, claims_of}
 use Rattle.cart_price.proofs.Sharing.{rise_of, floors_within, parts_fit}
-use Rattle.cart_price.proofs.shares.shares_of.Goals as goal
+use Rattle.cart_price.proofs.shares.shares_in.Goals as goal
 
 pub left_of-left-requires : goal.left_of-left-requires
 left_of-left-requires c =
     let claims : c.as_slice.result.now ≡ claims_of c.args.amount c.args.bases.now = grind (arith, common_steps) in
     subst (λ (cs : List Claim). sum_by (λ (at : Claim). at.floor) cs ≤ c.args.amount) (sym claims) (floors_within c.args.amount c.args.bases.now c.requires.most)
 
-pub parts_of-requires : goal.parts_of-requires
-parts_of-requires c =
+pub parts_in-requires-clause-fit : goal.parts_in-requires-clause-fit
+parts_in-requires-clause-fit c =
     let first : c.as_slice.result.now ≡ claims_of c.args.amount c.args.bases.now = grind (arith, common_steps) in
     let claims : c.as_slice-2.result.now ≡ claims_of c.args.amount c.args.bases.now = grind (arith, common_steps) in
     let left : c.left_of-left.result ≡ left_of c.args.amount (claims_of c.args.amount c.args.bases.now) =
