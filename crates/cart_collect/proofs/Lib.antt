@@ -1,0 +1,6 @@
+pub mod FieldNumbers
+pub mod Naming
+pub mod Walks
+pub mod Ranked
+pub mod Prices
+pub mod InOrder

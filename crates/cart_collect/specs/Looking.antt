@@ -1,0 +1,53 @@
+-- How rows are found by look-ups. No public contract cites this.
+use Rattle.std.specs.Prelude.{ℕ, Bool, ◌==◌, ◌&&◌, List, [], ◌∷◌, filter, Option, None, if◌then◌else◌, option_and_then, Some}
+use Rattle.std.specs.List.{filter_map, list_any}
+use Rattle.keyed.specs.Keyed.{put}
+use Rattle.shop_defs.specs.declared.entity.Entity.{Entity}
+use Rattle.shop_defs.specs.declared.key.Key.{Key}
+use Rattle.shop_defs.specs.declared.row.Row.{Row}
+use Rattle.shop_defs.specs.declared.table.TheConstants.{REFERENCES}
+use Rattle.shop_defs.specs.Entities.{entity_number}
+use Rattle.shop_defs.specs.Rows.{row_at}
+use Rattle.shop_operations.specs.References.{is_entity, live, refers_at, referrers}
+use Rattle.shop_rows.specs.Lookups.{first_above}
+use Rattle.cart_collect.specs.declared.ranks.Rank.{Rank}
+use Rattle.cart_collect.specs.Ranks.{rank_cmp}
+
+-- the row at the key, where it is of the entity
+abbrev pub row_of_at : List Row → Entity → Key → Option Row
+row_of_at rows entity key = if is_entity key.entity entity then row_at rows key else None
+
+abbrev pub rows_of_at : List Row → Entity → List Key → List Row
+rows_of_at rows entity keys = filter_map (row_of_at rows entity) keys
+
+-- one of the keys is of the entity
+abbrev pub has_entity : Entity → List Key → Bool
+has_entity entity keys = list_any (λ key. is_entity key.entity entity) keys
+
+-- the keys of the live rows that refer to the one with that id
+abbrev pub referring_keys : List Row → Entity → ℕ → List Key
+referring_keys rows of id = referrers REFERENCES (live rows) (entity_number of) id
+
+-- both keys are of one entity and one version
+abbrev pub is_beside : Key → Key → Bool
+is_beside a b = is_entity a.entity b.entity && (a.version == b.version)
+
+-- the row after the key, where it is of the key's entity and version
+abbrev pub if_beside : Key → Row → Option Row
+if_beside key row = if is_beside row.key key then Some row else None
+
+abbrev pub next_beside : List Row → Key → Option Row
+next_beside rows key = option_and_then (if_beside key) (first_above rows key)
+
+-- ---- ranks
+
+abbrev pub its : Rank → Rank
+its rank = rank
+
+-- ranks in their order, each once
+abbrev pub in_rank : List Rank → List Rank
+in_rank [] = []
+in_rank (rank ∷ ranks) = put rank_cmp its (in_rank ranks) rank
+
+abbrev pub rows_at_ranks : List Row → List Rank → List Row
+rows_at_ranks rows ranks = filter_map (λ rank. row_at rows rank.key) ranks
