@@ -6,3 +6,4 @@ mod LeastNames
 mod Lengths
 mod Steps
 mod TakenOut
+mod ObjectSteps

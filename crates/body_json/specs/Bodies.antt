@@ -1,4 +1,4 @@
--- What the body of a batch reads as.
+-- What bodies read as.
 use Rattle.std.specs.Prelude.{◌≡◌, ℕ, List, Some, Result, Ok, Err, IsUtf8}
 use Rattle.serde_json.specs.Data.{Data}
 use Rattle.serde_json.specs.Read.{read}
@@ -14,9 +14,20 @@ Reads body d = IsUtf8 body × (read body ≡ Some d)
 abbrev pub HasNoReading : List ℕ → Type 0
 HasNoReading body = (d : Data) → ¬ (Reads body d)
 
--- the answer is the batch that the body says, or the first wrong place in it; or the body has no reading
+-- the answer is what the body says by this shape, or the first wrong place in it; or the body has no reading
+abbrev pub IsReadAs : {A : Type 0} → (Data → Result A (List ℕ)) → List ℕ → Result A BodyFault → Type 0
+IsReadAs shape body (Ok value) = (d : Data) × Reads body d × (shape d ≡ Ok value)
+IsReadAs shape body (Err BadJson) = HasNoReading body
+IsReadAs shape body (Err (BadShape pointer)) = (d : Data) × Reads body d × (shape d ≡ Err pointer)
+IsReadAs shape body (Err NoMemory) = Unit {0}
+
+-- the same of a batch
 abbrev pub IsRead : List ℕ → Result (List RawOp) BodyFault → Type 0
-IsRead body (Ok ops) = (d : Data) × Reads body d × (batch d ≡ Ok ops)
-IsRead body (Err BadJson) = HasNoReading body
-IsRead body (Err (BadShape pointer)) = (d : Data) × Reads body d × (batch d ≡ Err pointer)
-IsRead body (Err NoMemory) = Unit {0}
+IsRead body answer = IsReadAs batch body answer
+
+-- a value was read of a body, or there is none
+abbrev pub IsParsed : {V : Type 0} → (V → Data) → List ℕ → Result V BodyFault → Type 0
+IsParsed view body (Ok value) = Reads body (view value)
+IsParsed view body (Err BadJson) = HasNoReading body
+IsParsed view body (Err (BadShape pointer)) = ⊥
+IsParsed view body (Err NoMemory) = Unit {0}

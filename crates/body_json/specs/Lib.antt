@@ -4,3 +4,4 @@ pub mod LeftMembers
 pub mod Pointers
 pub mod Shapes
 pub mod WellFormed
+pub mod Objects

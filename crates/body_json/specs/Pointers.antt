@@ -11,6 +11,10 @@ element_pointer at = codes "/" ++ decimal at
 abbrev pub member_pointer : ℕ → List ℕ → List ℕ
 member_pointer at name = element_pointer at ++ codes "/" ++ name
 
+-- a member of a body that is an object; its name stands there as it is
+abbrev pub name_pointer : List ℕ → List ℕ
+name_pointer name = codes "/" ++ name
+
 -- the fault names that place, or is want of memory
 abbrev pub IsFaultAt : List ℕ → BodyFault → Type 0
 IsFaultAt pointer BadJson = ⊥

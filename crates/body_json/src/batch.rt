@@ -10,8 +10,9 @@ ghost use Rattle.body_json.specs.WellFormed.{IsCount, IsWellFormed, HaveIds, Hav
 
 use crate::element::read_element;
 use crate::fault::{BodyFault, wrong_body};
+use crate::parsed::parse;
 use crate::room::with_room;
-use serde_json::{Category, Value};
+use serde_json::Value;
 use shop_defs::List;
 use shop_requests::RawOp;
 use std::alloc::Global;
@@ -83,11 +84,6 @@ pub fn read_batch(alloc: Global, body: &[u8]) -> Result<List<RawOp>, BodyFault>
     ensures ids { IfOk result HaveIds }
     ensures names { IfOk result HaveAscendingNames }
 {
-    match Value::from_slice(alloc, body) {
-        Ok(value) => read_value(alloc, value),
-        Err(error) => Err(match error.classify() {
-            Category::Memory => BodyFault::NoMemory,
-            _ => BodyFault::BadJson,
-        }),
-    }
+    let value = parse(alloc, body)?;
+    read_value(alloc, value)
 }

@@ -1,6 +1,6 @@
 //! Why a body says nothing, and the pointers to its wrong places.
 ghost use Rattle.std.specs.Prelude.{◌≡◌, [], IfOk, OnErr, string_bytes};
-ghost use Rattle.body_json.specs.Pointers.{IsFaultAt, element_pointer, member_pointer};
+ghost use Rattle.body_json.specs.Pointers.{IsFaultAt, element_pointer, member_pointer, name_pointer};
 
 use shop_defs::{NoMemory, Txt};
 use std::alloc::{AllocError, Global};
@@ -13,8 +13,9 @@ pub enum BodyFault {
     BadJson,
     /// The body is JSON, but not of the form that is wanted.
     BadShape {
-        /// The first wrong place: `/`, an element's number from 0 on, and where it is a member of that
-        /// element `/` and the member's name as it is, without escapes. Empty for the whole body.
+        /// The first wrong place. In a batch: `/`, an element's number from 0 on, and where it is a
+        /// member of that element `/` and the member's name. In a body that is an object: `/` and the
+        /// member's name. A name stands as it is, without escapes. Empty for the whole body.
         pointer: Txt,
     },
     /// Memory was wanted and refused.
@@ -53,6 +54,13 @@ pub fn wrong_member(alloc: Global, at: usize, name: &str) -> BodyFault
     ensures { IsFaultAt (member_pointer at name.now) result }
 {
     at_pointer(format!(in alloc; "/{at}/{name}"))
+}
+
+/// That a member of a body that is an object is missing, malformed or unknown.
+pub fn wrong_name(alloc: Global, name: &str) -> BodyFault
+    ensures { IsFaultAt (name_pointer name.now) result }
+{
+    at_pointer(format!(in alloc; "/{name}"))
 }
 
 fn at_pointer(pointer: Result<String, AllocError>) -> BodyFault

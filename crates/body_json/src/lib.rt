@@ -17,8 +17,11 @@ mod fault;
 mod fields;
 mod laws;
 mod members;
+mod object;
+mod parsed;
 mod room;
 
 pub use batch::{MOST_OPERATIONS, read_batch};
 pub use fault::BodyFault;
 pub use laws::{law_of_the_first_wrong_place, law_of_the_least_unknown_member};
+pub use object::{DraftBody, Form, read_amount, read_draft, read_order};

@@ -1,5 +1,5 @@
 //! The members of an operation, looked up by name.
-ghost use Rattle.std.specs.Prelude.{◌≡◌, option_map, option_and_then, string_bytes};
+ghost use Rattle.std.specs.Prelude.{◌≡◌, option_map, option_and_then, is_some, string_bytes};
 ghost use Rattle.std.specs.List.{list_any};
 ghost use Rattle.std.specs.Str.{bytes_eq};
 ghost use Rattle.serde_json.specs.Find.{as_str, get_member};
@@ -12,11 +12,18 @@ use shop_defs::OpKind;
 use shop_requests::read_id;
 
 /// The member with that name.
-fn member<'v>(members: &'v Map<String, Value>, name: &str) -> Option<&'v Value>
+pub fn member<'v>(members: &'v Map<String, Value>, name: &str) -> Option<&'v Value>
     ensures { option_map (λ value. view value.now) result
         ≡ get_member name.now (members_view members.now.entries) }
 {
     members.get(name)
+}
+
+/// Whether the member with that name is a text.
+pub fn is_text(members: &Map<String, Value>, name: &str) -> bool
+    ensures { result ≡ is_some (option_and_then as_str (get_member name.now (members_view members.now.entries))) }
+{
+    member(members, name).and_then(Value::as_str).is_some()
 }
 
 /// What the operation does.
@@ -31,7 +38,7 @@ pub fn read_kind(members: &Map<String, Value>) -> Option<OpKind>
 }
 
 /// The id that a value is.
-fn as_id(value: &Value) -> Option<u128>
+pub fn as_id(value: &Value) -> Option<u128>
     ensures { result ≡ id_of_data (view value.now) }
 {
     read_id(value.as_str()?.as_bytes())

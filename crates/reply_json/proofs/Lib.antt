@@ -1,5 +1,4 @@
 pub mod Printed
-pub mod IdsAscii
 pub mod Lengths
 mod DayReads
 pub mod Calendar

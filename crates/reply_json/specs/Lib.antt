@@ -6,3 +6,4 @@ pub mod FieldOrder
 pub mod RowReplies
 pub mod Refusals
 pub mod Faults
+pub mod Fronts

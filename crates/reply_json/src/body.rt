@@ -9,12 +9,11 @@ ghost use Rattle.reply_json.specs.KeyTexts.{key_text};
 ghost use Rattle.reply_json.specs.Objects.{count_data, number_data, id_data, key_data};
 ghost use Rattle.reply_json.specs.Tokens.{member_tokens};
 
-use crate::ascii::as_text;
 use crate::keys::key_text;
 use itoa::Buffer;
 use json::Writer;
 use shop_defs::{Key, List, NoMemory};
-use shop_requests::print_id;
+use shop_requests::write_id;
 use std::alloc::Global;
 use std::marker::Model;
 
@@ -47,17 +46,32 @@ impl Body {
     pub(crate) fn new(alloc: Global) -> Result<Body, NoMemory>
         ensures { IfOk result (λ body. body ≡ []) }
     {
-        Ok(Body {
-            out: Writer::new(Vec::with_capacity(alloc, ROOM)?),
-        })
+        Ok(Body::over(Vec::with_capacity(alloc, ROOM)?))
+    }
+
+    /// A body with nothing in it, which is printed into that memory. The bytes in it are let go.
+    pub(crate) fn over(mut room: Vec<u8>) -> Body
+        ensures { result ≡ [] }
+    {
+        room.clear();
+        Body {
+            out: Writer::new(room),
+        }
     }
 
     /// The bytes that are printed.
     pub(crate) fn finish(self) -> List<u8>
         ensures { result ≡ print self }
     {
+        List::from_vec(self.into_room())
+    }
+
+    /// The memory, with the bytes that are printed.
+    pub(crate) fn into_room(self) -> Vec<u8>
+        ensures { result.items ≡ print self }
+    {
         let Body { out } = self;
-        List::from_vec(out.into_inner())
+        out.into_inner()
     }
 
     pub(crate) fn begin_object(&mut self) -> Result<(), NoMemory>
@@ -135,7 +149,8 @@ impl Body {
     pub(crate) fn id(&mut self, id: u128) -> Result<(), NoMemory>
         ensures { OnOk result (self.new ≡ self.old ++ string (id_text id) ∷ []) }
     {
-        self.text(as_text(&print_id(id)))
+        let mut digits = [0; 32];
+        self.text(write_id(id, &mut digits))
     }
 
     /// A key, as its text.
@@ -157,6 +172,13 @@ impl Body {
     {
         self.name(name)?;
         self.count(u64::from(count))
+    }
+
+    pub(crate) fn front_member(&mut self, name: &str, front: u64) -> Result<(), NoMemory>
+        ensures { OnOk result (self.new ≡ self.old ++ member_tokens name.now (count_data front)) }
+    {
+        self.name(name)?;
+        self.count(front)
     }
 
     pub(crate) fn number_member(&mut self, name: &str, amount: &i64) -> Result<(), NoMemory>

@@ -4,21 +4,22 @@ ghost use Rattle.arrayvec.specs.ArrayString.{array_string_len};
 ghost use Rattle.shop_requests.specs.Ids.{id_text};
 ghost use Rattle.reply_json.specs.KeyTexts as spec;
 
-use crate::ascii::as_text;
 use arrayvec::ArrayString;
 use shop_defs::{Key, entity_name};
-use shop_requests::print_id;
+use shop_requests::write_id;
 
 /// No key's text is longer than that, in bytes: 20 for the entity, and 33 for each number and its
 /// mark.
 const LONGEST: usize = 119;
 
+#[tactic(auto, using(shop_requests::proofs::IdTexts::text_length))]
 fn push_id(text: &mut ArrayString<LONGEST>, id: u128)
     requires { array_string_len text.old + 32 ≤ LONGEST }
     ensures bytes { text.new.bytes ≡ text.old.bytes ++ id_text id }
     ensures len { array_string_len text.new ≡ array_string_len text.old + 32 }
 {
-    text.push_str(as_text(&print_id(id)));
+    let mut digits = [0; 32];
+    text.push_str(write_id(id, &mut digits));
 }
 
 /// Puts a number of a key behind a mark, where it isn't 0.

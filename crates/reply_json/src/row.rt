@@ -17,6 +17,7 @@ use shop_chain::ShownValue;
 use shop_defs::{FieldInfo, FieldKind, List, NoMemory, Row, Txt, Value, fields_of, is_day_number};
 use sqlite_items::at;
 use std::alloc::Global;
+use std::mem;
 
 /// The body that shows a row: `{"fields":{..},"key":K}` with the fields that aren't null, and behind
 /// them, where it is given, `"shown":{..}` with each name that is given and its value, or null.
@@ -35,28 +36,32 @@ pub fn row_text(
     Ok(out.finish())
 }
 
-/// The body that shows a row with what is lent to be shown beside it: that of `row_text`, without a
-/// copy. Want of memory is the only error.
+/// Prints the body that shows a row with what is lent to be shown beside it: that of `row_text`,
+/// without a copy, into memory that the caller keeps for this. What was there is let go, and no memory
+/// is taken where there is enough. Want of memory is the only error.
 pub fn seen_text(
     alloc: Global,
+    room: &mut Vec<u8>,
     row: &Row,
     shown: Option<&[ShownValue<'_>]>,
-) -> Result<List<u8>, NoMemory>
-    ensures { IfOk result (λ body. body ≡ compact_text (spec.row_data row.now (option_map (λ given. lent given.now) shown.entry))) }
+) -> Result<(), NoMemory>
+    ensures { OnOk result (room.new.items ≡ compact_text (spec.row_data row.now (option_map (λ given. lent given.now) shown.entry))) }
 {
-    let mut out = Body::new(alloc)?;
+    let mut out = Body::over(mem::replace(room, Vec::new(alloc)));
     put_seen(&mut out, row, shown)?;
-    Ok(out.finish())
+    *room = out.into_room();
+    Ok(())
 }
 
-/// The body that shows rows: `{"rows":[..]}`, each as `row_text` shows it with nothing beside it.
-/// Want of memory is the only error.
-pub fn rows_text(alloc: Global, rows: &[&Row]) -> Result<List<u8>, NoMemory>
-    ensures { IfOk result (λ body. body ≡ compact_text (spec.rows_data (map (λ row. row.now) rows.now))) }
+/// Prints the body that shows rows into the room, as `seen_text` does: `{"rows":[..]}`, each as
+/// `row_text` shows it with nothing beside it. Want of memory is the only error.
+pub fn rows_text(alloc: Global, room: &mut Vec<u8>, rows: &[&Row]) -> Result<(), NoMemory>
+    ensures { OnOk result (room.new.items ≡ compact_text (spec.rows_data (map (λ row. row.now) rows.now))) }
 {
-    let mut out = Body::new(alloc)?;
+    let mut out = Body::over(mem::replace(room, Vec::new(alloc)));
     put_rows(&mut out, rows)?;
-    Ok(out.finish())
+    *room = out.into_room();
+    Ok(())
 }
 
 fn put_rows(out: &mut Body, rows: &[&Row]) -> Result<(), NoMemory>

@@ -1,3 +1,4 @@
+pub mod BothTexts
 pub mod FieldNumbers
 pub mod Places
 pub mod Firsts

@@ -1,11 +1,12 @@
 -- Lists in which each id stands at its first place only.
-use Rattle.std.proofs.Common.{◌≡◌, ℕ, Bool, true, false, not, List, [], ◌∷◌, ◌++◌, refl, ap, ◌∙◌, cond, nat_eq, ◌||◌, append-nil}
+use Rattle.std.proofs.Common.{◌≡◌, ℕ, Bool, true, false, not, List, [], ◌∷◌, ◌++◌, refl, ap, sym, ◌∙◌, ◌≢◌, inl, inr, cond, nat_eq, ◌||◌, append-nil}
 use Rattle.std.specs.List.{filter, list_any, AllByRecursion, IsDistinct}
-use Rattle.std.specs.Prelude.{Option}
+use Rattle.std.specs.Prelude.{Option, Some, None}
+use Rattle.std.specs.Option.{option_map_or}
 use Rattle.std.proofs.lemmas.Bool.{eqb-true, eq-eqb}
 use Rattle.std.proofs.lemmas.List.Elements.{filter-append}
 use Rattle.std.proofs.lemmas.List.Folds.{list_any-append}
-use Rattle.shop_chain.specs.Chains.{walk, most_ancestors, each_once, chain_by, with_language, IsChain}
+use Rattle.shop_chain.specs.Chains.{walk, most_ancestors, each_once, chain_by, with_language, IsOfChain, IsChain}
 use Rattle.shop_chain.specs.declared.languages.TheConstants.{SYSTEM_LANGUAGE}
 
 -- the test for one id, and the ids other than another
@@ -85,12 +86,36 @@ has-last ids id = by (has id ids) refl
     by true there = there
     by false there = rw (list_any-append (λ other. nat_eq other id) ids (id ∷ []), there, eq-eqb id id refl) refl
 
+-- what holds of all ids holds of each at its first place
+each_once-all : (P : ℕ → Type 0) (ids : List ℕ) → AllByRecursion P ids → AllByRecursion P (each_once ids)
+each_once-all P [] all = tt
+each_once-all P (id ∷ ids) all = (all.0, all-filter P (λ other. not (nat_eq id other)) (each_once ids) (each_once-all P ids all.1))
+
+-- the ids of which a chain is made are the language, its parent and the system language
+none_else : (parent : ℕ → Option ℕ) (language : ℕ) → AllByRecursion (IsOfChain language (parent language)) (walk parent most_ancestors language ++ SYSTEM_LANGUAGE ∷ [])
+none_else parent language = by (parent language)
+  where
+    by : (above : Option ℕ) → AllByRecursion (IsOfChain language above) ((language ∷ option_map_or (walk parent 0) above []) ++ SYSTEM_LANGUAGE ∷ [])
+    by None = (inl refl, (inr (inr refl), tt))
+    by (Some above) = (inl refl, (inr (inl refl), (inr (inr refl), tt)))
+
+-- another parent stands second
+second_is : (parent : ℕ → Option ℕ) (language above : ℕ) → parent language ≡ Some above → above ≢ language → (rest : List ℕ) × (chain_by parent language ≡ language ∷ above ∷ rest)
+second_is parent language above named other =
+    (_, ap (λ (found : Option ℕ). each_once ((language ∷ option_map_or (walk parent 0) found []) ++ SYSTEM_LANGUAGE ∷ [])) named ∙ by (nat_eq language above) refl)
+  where
+    by : (same : Bool) → nat_eq language above ≡ same → each_once (language ∷ above ∷ SYSTEM_LANGUAGE ∷ []) ≡ language ∷ above ∷ others language (others above (SYSTEM_LANGUAGE ∷ []))
+    by true is = absurd (other (sym (eqb-true language above is)))
+    by false is = rw is refl
+
 -- every chain keeps what is said of it in words
-pub chain_by-words : (parent : ℕ → Option ℕ) (language : ℕ) → IsChain language (chain_by parent language)
+pub chain_by-words : (parent : ℕ → Option ℕ) (language : ℕ) → IsChain language (parent language) (chain_by parent language)
 chain_by-words parent language = record {
   begins = (_, refl);
+  second = second_is parent language;
   once = each_once-distinct (walk parent most_ancestors language ++ SYSTEM_LANGUAGE ∷ []);
   system = ap (λ ids. has SYSTEM_LANGUAGE ids) (each_once-append (walk parent most_ancestors language) SYSTEM_LANGUAGE) ∙ has-last (each_once (walk parent most_ancestors language)) SYSTEM_LANGUAGE;
+  no_other = each_once-all (IsOfChain language (parent language)) (walk parent most_ancestors language ++ SYSTEM_LANGUAGE ∷ []) (none_else parent language);
 }
 
 pub ruleset places = (each_once-append, chain_by-words)

@@ -1,6 +1,6 @@
 -- The languages that a text is looked for in, in their order.
-use Rattle.std.specs.Prelude.{◌≡◌, IsTrue, nat_eq, ℕ, zero, suc, ◌==◌, not, List, [], ◌∷◌, ◌++◌, Option, Some, None, if◌then◌else◌, filter, option_and_then, unwrap_or}
-use Rattle.std.specs.List.{list_any, IsDistinct}
+use Rattle.std.specs.Prelude.{◌≡◌, ◌≢◌, ◌⊎◌, IsTrue, nat_eq, ℕ, zero, suc, ◌==◌, not, List, [], ◌∷◌, ◌++◌, Option, Some, None, if◌then◌else◌, filter, option_and_then, unwrap_or}
+use Rattle.std.specs.List.{list_any, AllByRecursion, IsDistinct}
 use Rattle.std.specs.Option.{option_map_or}
 use Rattle.shop_defs.specs.declared.entity.Entity.{Entity}
 use Rattle.shop_defs.specs.declared.entity.Entity.TheVariants as E
@@ -62,11 +62,18 @@ chain language row = chain_by (λ _. option_and_then parent_of row) language
 abbrev pub chain_of : (Key → Option Row) → ℕ → List ℕ
 chain_of look language = chain_by (λ above. option_and_then parent_of (look (language_key above))) language
 
--- A chain in words: it begins with the language that is asked for, no language stands twice in it, and the system language stands in it.
-pub record IsChain (language : ℕ) (languages : List ℕ) : Type 0 where
+-- the id is the language, its parent or the system language
+abbrev pub IsOfChain : ℕ → Option ℕ → ℕ → Type 0
+IsOfChain language parent id = (id ≡ language) ⊎ (parent ≡ Some id) ⊎ (id ≡ SYSTEM_LANGUAGE)
+
+-- A chain in words: it begins with the language that is asked for; the parent of that one, where it has another, stands second; no
+-- language stands twice; the system language is among them; and there is no other.
+pub record IsChain (language : ℕ) (parent : Option ℕ) (languages : List ℕ) : Type 0 where
   pub begins : (rest : List ℕ) × (languages ≡ language ∷ rest)
+  pub second : (above : ℕ) → parent ≡ Some above → above ≢ language → (rest : List ℕ) × (languages ≡ language ∷ above ∷ rest)
   pub once : IsDistinct nat_eq languages
   pub system : IsTrue (list_any (λ id. id == SYSTEM_LANGUAGE) languages)
+  pub no_other : AllByRecursion (IsOfChain language parent) languages
 
 -- the ids with one more at the end, unless it is among them. No public contract cites this.
 abbrev pub with_language : List ℕ → ℕ → List ℕ

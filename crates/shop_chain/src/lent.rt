@@ -5,10 +5,8 @@ ghost use Rattle.shop_chain.specs.Showing as spec;
 
 use crate::inheritance::effective;
 use crate::languages::Chain;
-use crate::numbers::{
-    DESCRIPTION, GROSS, MAX_ORDER, MIN_ORDER, NAME, NET, PRODUCT_PARENT, TAX, WEIGHT,
-};
-use crate::texts::{Asked, translated};
+use crate::numbers::{GROSS, MAX_ORDER, MIN_ORDER, NET, PRODUCT_PARENT, TAX, WEIGHT};
+use crate::texts::{Asked, both_translated};
 use crate::walk::id_in;
 use shop_defs::{Entity, FieldName, Key, Look, Row, Value};
 use std::marker::Model;
@@ -99,17 +97,14 @@ fn product_shown<'a, L: Look>(
         parent: asked_parent(row, inherits),
     };
     let above = product_row(rows, version, asked.parent);
-    let languages = chain.as_slice();
+    let texts = both_translated(rows, &asked, chain.as_slice());
     Shown {
         values: [
-            named(
-                FieldName::Description,
-                translated(rows, &asked, DESCRIPTION, languages),
-            ),
+            named(FieldName::Description, texts.description),
             named(FieldName::Gross, effective(row, above, GROSS)),
             named(FieldName::MaxOrder, effective(row, above, MAX_ORDER)),
             named(FieldName::MinOrder, effective(row, above, MIN_ORDER)),
-            named(FieldName::Name, translated(rows, &asked, NAME, languages)),
+            named(FieldName::Name, texts.name),
             named(FieldName::Net, effective(row, above, NET)),
             named(FieldName::Tax, effective(row, above, TAX)),
             named(FieldName::Weight, effective(row, above, WEIGHT)),
@@ -130,13 +125,10 @@ fn category_shown<'a, L: Look>(rows: &'a L, version: u128, row: &'a Row, chain: 
         id: row.key.id,
         parent: None,
     };
-    let languages = chain.as_slice();
+    let texts = both_translated(rows, &asked, chain.as_slice());
     let mut values = [UNUSED; 8];
-    values[0] = named(
-        FieldName::Description,
-        translated(rows, &asked, DESCRIPTION, languages),
-    );
-    values[1] = named(FieldName::Name, translated(rows, &asked, NAME, languages));
+    values[0] = named(FieldName::Description, texts.description);
+    values[1] = named(FieldName::Name, texts.name);
     Shown { values, len: 2 }
 }
 

@@ -13,7 +13,7 @@ use shop_defs::{Entity, Key, Look, Row, Value};
 #[tactic(auto, using(crate::proofs::Places::places))]
 pub fn chain(context: u128, row: Option<&Row>) -> Chain
     ensures value { result ≡ spec.chain context (option_copied row.entry) }
-    ensures words { spec.IsChain context result }
+    ensures words { spec.IsChain context (option_and_then spec.parent_of (option_copied row.entry)) result }
 {
     with_ancestors(context, parent_of(row)).with(SYSTEM_LANGUAGE)
 }
@@ -22,7 +22,7 @@ pub fn chain(context: u128, row: Option<&Row>) -> Chain
 /// memory.
 pub fn chain_of<L: Look>(rows: &L, language: u128) -> Chain
     ensures value { result ≡ spec.chain_of (L.shown rows.now) language }
-    ensures words { spec.IsChain language result }
+    ensures words { spec.IsChain language (option_and_then spec.parent_of (L.shown rows.now (spec.language_key language))) result }
 {
     chain(language, rows.row(&language_key(language)))
 }

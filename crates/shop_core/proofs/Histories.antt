@@ -5,7 +5,8 @@ use Rattle.std.proofs.lemmas.List.{append-nil, take-append-le, take_all}
 use Rattle.std.proofs.lemmas.List.Elements.{filter-append}
 use Rattle.std.proofs.lemmas.List.Sums.{fold-append}
 use Rattle.shop_core.specs.Steps.{Stepped, accepted, refused, unbuilt, IsAccepted}
-use Rattle.shop_core.specs.History.{State, Entry, step_at, after_step, after_entry, replay, IsLegal, own, at, OneEntryMore, PrefixesStay, EachIsCounted}
+use Rattle.shop_core.specs.declared.answers.Entry.{Entry}
+use Rattle.shop_core.specs.History.{State, step_at, after_step, after_entry, replay, IsLegal, own, at, OneEntryMore, PrefixesStay, EachIsCounted}
 
 last_step : (start : State) (entries : List Entry) (entry : Entry) → replay start (entries ++ entry ∷ []) ≡ after_entry (replay start entries) entry
 unfolding replay

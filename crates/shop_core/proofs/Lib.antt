@@ -10,3 +10,4 @@ pub mod Planning
 pub mod Stepping
 pub mod TableLines
 pub mod Listed
+pub mod ReadWords

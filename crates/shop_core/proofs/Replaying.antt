@@ -4,7 +4,8 @@ use Rattle.shop_core.specs.declared.answers.Done.{Done}
 use Rattle.shop_core.specs.declared.answers.CommitFault.{CommitFault}
 use Rattle.shop_core.specs.declared.answers.CommitFault.TheVariants as faults
 use Rattle.shop_core.specs.Steps.{IsAccepted}
-use Rattle.shop_core.specs.History.{State, Entry, after_step, after_entry, replay, IsLegal}
+use Rattle.shop_core.specs.declared.answers.Entry.{Entry}
+use Rattle.shop_core.specs.History.{State, after_step, after_entry, replay, IsLegal}
 use Rattle.shop_core.specs.Shops.{ShopView, state_of}
 use Rattle.shop_core.specs.Commits.{Commits, Answered, AreCommitted, accepted_of, is_store_failed, CommitsAreTheReplay}
 

@@ -13,7 +13,8 @@ use Rattle.shop_operations.specs.References.{live}
 use Rattle.shop_check.specs.Soundness.{AreSound}
 use Rattle.shop_core.specs.Ranges.{IsRawOp}
 use Rattle.shop_core.specs.Steps.{Stepped, accepted, refused, unbuilt, IsBatch, IsBuilt, with_live, batched, effect, step}
-use Rattle.shop_core.specs.History.{State, Entry, step_at, after_step, after_entry, replay, MayBeGiven, RowsStaySound}
+use Rattle.shop_core.specs.declared.answers.Entry.{Entry}
+use Rattle.shop_core.specs.History.{State, step_at, after_step, after_entry, replay, MayBeGiven, RowsStaySound}
 use Rattle.shop_core.proofs.Batches.{left_by_batch, left_is_sound, stays_live}
 use Rattle.shop_core.proofs.Encodings.{left_is_kept}
 use Rattle.shop_core.proofs.Stepping.{accepted_effect}

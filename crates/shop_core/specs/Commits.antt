@@ -6,7 +6,8 @@ use Rattle.shop_core.specs.declared.answers.Done.{Done}
 use Rattle.shop_core.specs.declared.answers.CommitFault.{CommitFault}
 use Rattle.shop_core.specs.declared.answers.CommitFault.TheVariants as faults
 use Rattle.shop_core.specs.Steps.{step, accepted, refused, IsAccepted}
-use Rattle.shop_core.specs.History.{State, Entry, replay, IsLegal}
+use Rattle.shop_core.specs.declared.answers.Entry.{Entry}
+use Rattle.shop_core.specs.History.{State, replay, IsLegal}
 use Rattle.shop_core.specs.Shops.{ShopView, state_of}
 
 -- How an answer fits the step, and what it leaves of the rows and the number. Only want of memory comes at any step.

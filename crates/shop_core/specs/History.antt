@@ -4,6 +4,7 @@ use Rattle.std.specs.List.{fold, AllByRecursion}
 use Rattle.shop_requests.specs.declared.command.Command.{Command}
 use Rattle.shop_defs.specs.declared.row.Row.{Row}
 use Rattle.shop_check.specs.Soundness.{AreSound}
+use Rattle.shop_core.specs.declared.answers.Entry.{Entry}
 use Rattle.shop_core.specs.Ranges.{IsInRange}
 use Rattle.shop_core.specs.Steps.{Stepped, accepted, refused, unbuilt, step, IsAccepted, IsBuilt}
 
@@ -11,12 +12,6 @@ use Rattle.shop_core.specs.Steps.{Stepped, accepted, refused, unbuilt, step, IsA
 pub record State : Type 0 where
   pub rows : List Row
   pub number : ℕ
-
--- an entry: the number of the caller, what it asked for, and when
-pub record Entry : Type 0 where
-  pub caller : ℕ
-  pub command : Command
-  pub moment : ℤ
 
 -- what becomes of an entry at its place
 abbrev pub step_at : State → Entry → Stepped

@@ -7,3 +7,4 @@ pub mod Commits
 pub mod Opening
 pub mod Requests
 pub mod Seeing
+pub mod FirstBroken

@@ -108,7 +108,9 @@ with_bare (Err broken) = Err broken
 -- the request is one that is built
 abbrev pub IsBuiltRequest : Request → Type 0
 IsBuiltRequest (requests.Write command) = IsBuilt command
-IsBuiltRequest request = Unit {0}
+IsBuiltRequest (requests.Row read) = Unit {0}
+IsBuiltRequest (requests.RowList entity id second) = Unit {0}
+IsBuiltRequest request = ⊥
 
 -- the answer to a read that shows nothing
 abbrev pub not_shown : AskFault → Reply
@@ -133,8 +135,9 @@ IsWritten old replies.StoreFailed moment (requests.Write command) now = Commits 
 IsWritten old replies.NoMemory moment (requests.Write command) now = Commits old command moment (Err faults.NoMemory) now
 IsWritten old reply moment request now = ⊥
 
--- A request is answered as its commit or its read is.
+-- A request that is built is answered as its commit or its read is.
 abbrev pub Answers : ShopView → Request → ℤ → Reply → ShopView → Type 0
 Answers old (requests.Write command) moment reply now = IsWritten old reply moment (requests.Write command) now
 Answers old (requests.Row read) moment reply now = IsRead old reply (answered replies.Row (reading old.rows read)) now
 Answers old (requests.RowList entity id second) moment reply now = IsRead old reply (answered replies.RowList (with_bare (listing old.rows entity id second))) now
+Answers old request moment reply now = ⊥

@@ -7,7 +7,8 @@ ghost use Rattle.shop_core.specs.Requests as spec;
 use shop_chain::Shown;
 use shop_check::Rule;
 use shop_defs::{Broken, Key, List, NoMemory, Refused, Row, Txt, Value};
-use shop_requests::{Command, LineFault, RowRead};
+use shop_outside::Moment;
+use shop_requests::{Command, LineFault, Query, RowRead};
 
 /// A command is done.
 #[derive(Drop, Clone, Copy)]
@@ -16,6 +17,17 @@ pub struct Done {
     pub front: u64,
     /// What the command gives: of a batch, how many operations it has.
     pub value: i64,
+}
+
+/// A command that was accepted, as the history has it.
+#[derive(Drop)]
+pub struct Entry {
+    /// The number of the caller that asked for it.
+    pub caller: u32,
+    /// What was asked for.
+    pub command: Command,
+    /// When it was asked for.
+    pub moment: Moment,
 }
 
 /// Why a command is not done.
@@ -106,6 +118,20 @@ pub enum Request {
         /// The second part of the place. 0 is below all of them.
         second: u128,
     },
+    /// To answer what an index knows. No call of this crate answers it yet.
+    Indexed {
+        /// The question.
+        query: Query,
+        /// How many accepted entries the answer has to have seen at least.
+        min_front: u64,
+    },
+    /// To price a cart. No call of this crate answers it yet.
+    Cart {
+        /// The id of the cart.
+        cart: u128,
+    },
+    /// To say how many entries are accepted and published. No call of this crate answers it yet.
+    Front,
 }
 
 /// What a shop answers.
@@ -117,6 +143,21 @@ pub enum Reply {
     Row(RowReply),
     /// The rows that are listed, in the order of their keys.
     RowList(List<RowReply>),
+    /// How many entries there are. No call of this crate answers it yet.
+    Front {
+        /// So many are accepted.
+        accepted: u64,
+        /// So many of them the indexes have seen.
+        published: u64,
+    },
+    /// An index is asked for what more entries than there are have changed. No call of this crate
+    /// answers it yet.
+    FrontUnknown {
+        /// So many entries the answer has to have seen at least.
+        asked: u64,
+        /// So many are accepted.
+        have: u64,
+    },
     /// The request breaks a rule, and nothing is changed.
     Refused(Refused),
     /// What came isn't a request that is answered. No call of this crate answers it.

@@ -17,7 +17,10 @@
 //!   what the keeper holds. One command is built: a batch for the live rows.
 //! - `read_row` answers what a read shows, or the first rule that it breaks (`reading`),
 //!   `read_list` which rows are listed (`listing`); `see_row` and `see_list` lend the same, and
-//!   `answer` is all of these for a request.
+//!   `answer` is all of these for a request. In words: where a read breaks a rule, no earlier one is
+//!   broken (`first`), and what is shown breaks none (`kept`).
+//! - A shop, its rows and the keeper in memory may be handed to another thread, and lent to several
+//!   (`law_of_threads`).
 //! - Laws: live rows that are put in place of others stand so (`law_of_live_rows`); histories with
 //!   one entry more, prefixes, their count and soundness (`law_of_one_entry_more`,
 //!   `law_of_prefixes`, `law_of_counting`, `law_of_sound_rows`, the last for commands whose parts
@@ -30,10 +33,14 @@ mod laws;
 mod plan;
 mod read;
 mod state;
+mod threads;
 
-pub use answers::{AskFault, CommitFault, Done, OpenFault, Reply, Request, RowReply, RowSeen};
+pub use answers::{
+    AskFault, CommitFault, Done, Entry, OpenFault, Reply, Request, RowReply, RowSeen,
+};
 pub use laws::{
     law_of_counting, law_of_live_rows, law_of_one_entry_more, law_of_prefixes, law_of_sound_rows,
     law_of_the_commits,
 };
 pub use state::{ShopState, open_shop};
+pub use threads::law_of_threads;

@@ -57,7 +57,7 @@ pub(crate) fn encode_changes(
     ensures bytes { IfOk result (λ bytes. bytes ≡ encoded changes.now) }
     ensures kept { OnOk result (AreKeptRows changes.now) }
 {
-    let mut bytes = List::new(alloc);
+    let mut bytes = List::from_vec(Vec::with_capacity(alloc, changes.len())?);
     for (key, row) in changes {
         bytes.push((*key, encode_change(alloc, row)?))?;
     }

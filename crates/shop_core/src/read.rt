@@ -154,7 +154,7 @@ pub(crate) fn copy_row(alloc: Global, rows: &Rows, read: &RowRead) -> Result<Row
 fn copy_shown(alloc: Global, shown: &Shown<'_>) -> Result<List<(Txt, Option<Value>)>, NoMemory>
     ensures { IfOk result (λ copy. copy ≡ shown.now) }
 {
-    let mut copy = List::new(alloc);
+    let mut copy = List::from_vec(Vec::with_capacity(alloc, shown.as_slice().len())?);
     for value in shown.as_slice() {
         let name = Txt::from_str(alloc, value.name.text())?;
         copy.push((name, copy_value(alloc, value.value)?))?;
@@ -227,7 +227,7 @@ pub(crate) fn copy_list(
 fn copy_bare(alloc: Global, rows: &[Row]) -> Result<List<RowReply>, NoMemory>
     ensures { IfOk result (λ copy. copy ≡ map spec.bare rows.now) }
 {
-    let mut copy = List::new(alloc);
+    let mut copy = List::from_vec(Vec::with_capacity(alloc, rows.len())?);
     for row in rows {
         copy.push(RowReply {
             row: row.copy(alloc)?,

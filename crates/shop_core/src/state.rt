@@ -1,5 +1,5 @@
 //! The rows, the keeper and the number of accepted entries.
-ghost use Rattle.std.specs.Prelude.{◌≡◌, List, ℕ, Option, Some, Ok, Err, IfOk, IfErr, MatchResult};
+ghost use Rattle.std.specs.Prelude.{◌≡◌, List, ℕ, Option, Some, Ok, Err, IfOk, IfErr, MatchResult, OnOk};
 ghost use Rattle.shop_defs.specs.declared.row.Row.{Row};
 ghost use Rattle.shop_outside.specs.Clocks.{IsMoment};
 ghost use Rattle.shop_check.specs.Soundness.{kept as kept_rows, AreSound};
@@ -9,6 +9,7 @@ ghost use Rattle.shop_core.specs.Commits.{Commits};
 ghost use Rattle.shop_core.specs.Opening.{Opens, HasOpenCause, IsNoDamage};
 ghost use Rattle.shop_core.specs.Requests.{Answers, IsBuiltRequest, Shows, listing, reading, with_bare};
 ghost use Rattle.shop_core.specs.Seeing.{Sees};
+ghost use Rattle.shop_core.specs.FirstBroken.{KeepsRules, NamesFirst};
 
 use crate::answers::{
     AskFault, CommitFault, Done, OpenFault, Reply, Request, RowReply, RowSeen, not_shown,
@@ -147,8 +148,12 @@ impl<P: Keeper + Drop> ShopState<P> {
     /// given for a key of one part or is missing for one of two, `NoSuchVersion` where the version is
     /// neither live nor a draft's, and `NoSuchRow` where no row has the key. `NoMemory` comes where
     /// memory is refused.
+    #[tactic(auto, using(crate::proofs::ReadWords::shown_first, crate::proofs::ReadWords::shown_kept))]
     pub fn read_row(&self, alloc: Global, read: &RowRead) -> Result<RowReply, AskFault>
         ensures shows { Shows result (reading self.now.rows read.now) }
+        // In words: the refusal is by the first broken rule, and what is shown breaks none.
+        ensures first { IfErr result (NamesFirst self.now.rows read.now) }
+        ensures kept { OnOk result (KeepsRules self.now.rows read.now) }
         ensures shop { IsShop self.now }
     {
         copy_row(alloc, &self.rows, read)
@@ -159,8 +164,12 @@ impl<P: Keeper + Drop> ShopState<P> {
     /// # Errors
     ///
     /// Those of `read_row`.
+    #[tactic(auto, using(crate::proofs::ReadWords::seen_first, crate::proofs::ReadWords::seen_kept))]
     pub fn see_row<'a>(&'a self, alloc: Global, read: &RowRead) -> Result<RowSeen<'a>, AskFault>
         ensures sees { Sees result (reading self.entry.now.rows read.now) }
+        // In words: the refusal is by the first broken rule, and what is shown breaks none.
+        ensures first { IfErr result (NamesFirst self.entry.now.rows read.now) }
+        ensures kept { OnOk result (KeepsRules self.entry.now.rows read.now) }
         ensures shop { IsShop self.entry.now }
     {
         see_row(alloc, &self.rows, read)
@@ -205,7 +214,7 @@ impl<P: Keeper + Drop> ShopState<P> {
         see_list(&self.rows, entity, id, second)
     }
 
-    /// Answers one request: a write as `commit` does, and a read as `read_row` or `read_list` does,
+    /// Answers one request that is built: a write as `commit` does, and a read as `read_row` or `read_list` does,
     /// which changes nothing.
     pub fn answer(&mut self, alloc: Global, request: &Request, moment: Moment) -> Reply
         requires built { IsBuiltRequest request.now }
@@ -230,6 +239,7 @@ impl<P: Keeper + Drop> ShopState<P> {
                     Err(fault) => not_shown(fault),
                 }
             }
+            _ => unreachable!(),
         }
     }
 

@@ -6,14 +6,11 @@ use Rattle.std.specs.Str.{is_utf8}
 use Rattle.std.proofs.lemmas.Str.{IsUtf8-from_is_utf8, is_utf8-from_IsUtf8}
 use Rattle.serde_json.specs.Data.{Data}
 use Rattle.serde_json.specs.Read.{read}
-use Rattle.shop_requests.specs.declared.command.Command.TheVariants as commands
-use Rattle.shop_requests.specs.declared.raw.RawOp.{RawOp}
-use Rattle.shop_requests.specs.declared.route.Route.TheVariants as routes
-use Rattle.shop_core.specs.declared.answers.Request.TheVariants as requests
-use Rattle.body_json.specs.Bodies.{HasNoReading, IsRead, Reads as SaysValue}
+use Rattle.shop_requests.specs.declared.command.Command.{Command}
+use Rattle.body_json.specs.Bodies.{HasNoReading, IsReadAs, Reads as SaysValue}
 use Rattle.body_json.specs.declared.fault.BodyFault.{BodyFault}
 use Rattle.body_json.specs.declared.fault.BodyFault.TheVariants as B
-use Rattle.shop_json.specs.Asking.{Reads, as_write, batch_in, body_value, by_batch, by_value, request_in}
+use Rattle.shop_json.specs.Asking.{Reads, as_write, body_value, by_shape, by_value, said}
 
 value_said : (body : List ℕ) (d : Data) → SaysValue body d → body_value body ≡ Some d
 value_said body d said = ap (λ text. if text then read body else None) (is_utf8-from_IsUtf8 body said.0) ∙ said.1
@@ -26,15 +23,17 @@ no_value body none = by (is_utf8 body) (read body) refl refl
     by true None t r = refl
     by true (Some d) t r = absurd (none d (IsUtf8-from_is_utf8 body t, r))
 
-pub batch_read : (body : List ℕ) (version : ℕ) (ops : List RawOp) → IsRead body (Ok ops) → request_in (routes.Sync version) body ≡ Ok (requests.Write (commands.Sync version ops))
-unfolding batch_in
-batch_read body version ops is = ap (λ value. as_write version (by_value value)) (value_said body is.0 is.1) ∙ ap (λ batch. as_write version (by_batch batch)) is.2
+-- what was read is what the body says
+pub is_said : {A : Type 0} (shape : Data → Result A (List ℕ)) (body : List ℕ) (value : A) → IsReadAs shape body (Ok value) → said shape body ≡ Ok value
+unfolding said
+is_said shape body value is = ap (by_value shape) (value_said body is.0 is.1) ∙ ap by_shape is.2
 
-pub batch_not_read : (body : List ℕ) (version : ℕ) (fault : BodyFault) → IsRead body (Err fault) → Reads (request_in (routes.Sync version) body) (Err fault)
-unfolding batch_in
-batch_not_read body version B.BadJson is = ap (λ value. as_write version (by_value value)) (no_value body is)
-batch_not_read body version (B.BadShape pointer) is = ap (λ value. as_write version (by_value value)) (value_said body is.0 is.1) ∙ ap (λ batch. as_write version (by_batch batch)) is.2
-batch_not_read body version B.NoMemory is = tt
+-- what is wrong with the body is wrong with the request
+pub not_said : {A : Type 0} (shape : Data → Result A (List ℕ)) (command : A → Command) (body : List ℕ) (fault : BodyFault) → IsReadAs shape body (Err fault) → Reads (as_write command (said shape body)) (Err fault)
+unfolding said
+not_said shape command body B.BadJson is = ap (λ value. as_write command (by_value shape value)) (no_value body is)
+not_said shape command body (B.BadShape pointer) is = ap (λ value. as_write command (by_value shape value)) (value_said body is.0 is.1) ∙ ap (λ found. as_write command (by_shape found)) is.2
+not_said shape command body B.NoMemory is = tt
 
 pub err_is : {A E : Type 0} (answer : Result A E) (fault : E) → IsErrAnd answer (λ e. e ≡ fault) → answer ≡ Err fault
 err_is (Ok a) fault is = absurd is

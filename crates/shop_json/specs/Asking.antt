@@ -3,12 +3,13 @@ use Rattle.std.specs.Prelude.{◌≡◌, ℕ, false, List, Option, Some, None, i
 use Rattle.std.specs.Str.{is_utf8}
 use Rattle.serde_json.specs.Data.{Data}
 use Rattle.serde_json.specs.Read.{read}
+use Rattle.shop_requests.specs.declared.command.Command.{Command}
 use Rattle.shop_requests.specs.declared.command.Command.TheVariants as commands
 use Rattle.shop_requests.specs.declared.line_fault.LineFault.{LineFault}
 use Rattle.shop_requests.specs.declared.line_fault.LineFault.TheVariants as F
-use Rattle.shop_requests.specs.declared.raw.RawOp.{RawOp}
 use Rattle.shop_requests.specs.declared.route.Route.{Route}
 use Rattle.shop_requests.specs.declared.route.Route.TheVariants as routes
+use Rattle.body_json.specs.Objects.{draft, amount, order}
 use Rattle.body_json.specs.Shapes.{batch}
 use Rattle.body_json.specs.WellFormed.{HaveAscendingNames}
 use Rattle.body_json.specs.declared.fault.BodyFault.{BodyFault}
@@ -21,28 +22,37 @@ use Rattle.shop_routes.specs.Later.{is_later}
 abbrev pub body_value : List ℕ → Option Data
 body_value body = if is_utf8 body then read body else None
 
-abbrev pub by_batch : Result (List RawOp) (List ℕ) → Result (List RawOp) LineFault
-by_batch (Ok ops) = Ok ops
-by_batch (Err pointer) = Err (F.BadShape pointer)
+abbrev pub by_shape : {A : Type 0} → Result A (List ℕ) → Result A LineFault
+by_shape (Ok value) = Ok value
+by_shape (Err pointer) = Err (F.BadShape pointer)
 
-abbrev pub by_value : Option Data → Result (List RawOp) LineFault
-by_value None = Err F.BadJson
-by_value (Some d) = by_batch (batch d)
+abbrev pub by_value : {A : Type 0} → (Data → Result A (List ℕ)) → Option Data → Result A LineFault
+by_value shape None = Err F.BadJson
+by_value shape (Some d) = by_shape (shape d)
 
--- the operations of a body, or what is wrong with it
-unfoldable pub batch_in : List ℕ → Result (List RawOp) LineFault
-batch_in body = by_value (body_value body)
+-- what a body says by a shape, or what is wrong with it
+unfoldable pub said : {A : Type 0} → (Data → Result A (List ℕ)) → List ℕ → Result A LineFault
+said shape body = by_value shape (body_value body)
 
-abbrev pub as_write : ℕ → Result (List RawOp) LineFault → Result Request LineFault
-as_write version (Ok ops) = Ok (requests.Write (commands.Sync version ops))
-as_write version (Err fault) = Err fault
+abbrev pub as_write : {A : Type 0} → (A → Command) → Result A LineFault → Result Request LineFault
+as_write command (Ok value) = Ok (requests.Write (command value))
+as_write command (Err fault) = Err fault
 
--- what a route asks for, by the body: a batch has its operations in it, and a read ignores it
+-- What a route asks for, by the body: a batch has its operations in it, a new draft what it is of, a change of stock by how many, an
+-- order of a cart its id. All others ignore it.
 abbrev pub request_in : Route → List ℕ → Result Request LineFault
-request_in (routes.Sync version) body = as_write version (batch_in body)
+request_in (routes.Sync version) body = as_write (λ ops. commands.Sync version ops) (said batch body)
+request_in (routes.Draft version) body = as_write (λ named. commands.MakeDraft version named.entity named.root) (said draft body)
+request_in (routes.Merge version) body = Ok (requests.Write (commands.Merge version))
+request_in (routes.Drop version) body = Ok (requests.Write (commands.DropDraft version))
+request_in (routes.Stock product) body = as_write (λ pieces. commands.AdjustStock product pieces) (said amount body)
+request_in (routes.PlaceCart cart) body = as_write (λ id. commands.Place cart id) (said order body)
+request_in (routes.Transit id action) body = Ok (requests.Write (commands.Transition id action))
 request_in (routes.Row read) body = Ok (requests.Row read)
 request_in (routes.RowList entity id second) body = Ok (requests.RowList entity id second)
-request_in route body = Err F.NotBuilt
+request_in (routes.Asked query min_front) body = Ok (requests.Indexed query min_front)
+request_in (routes.Cart cart) body = Ok (requests.Cart cart)
+request_in routes.Front body = Ok requests.Front
 
 -- the route is one whose answer is there
 abbrev pub IsServedRoute : Route → Type 0

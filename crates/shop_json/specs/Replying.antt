@@ -6,6 +6,7 @@ use Rattle.shop_core.specs.declared.answers.Reply.{Reply}
 use Rattle.shop_core.specs.declared.answers.Reply.TheVariants as R
 use Rattle.shop_chain.specs.Showing.{ShownList}
 use Rattle.reply_json.specs.Faults.{fault_data, fault_status}
+use Rattle.reply_json.specs.Fronts.{front_data, front_unknown_data}
 use Rattle.reply_json.specs.Objects.{object_of}
 use Rattle.reply_json.specs.Refusals.{refusal_data, refusal_status}
 use Rattle.reply_json.specs.RowReplies.{done_data, row_data, rows_data}
@@ -22,6 +23,8 @@ abbrev pub reply_data : Reply → Data
 reply_data (R.Done done) = done_data done.front done.value
 reply_data (R.Row reply) = row_data reply.row (if_any reply.shown)
 reply_data (R.RowList replies) = rows_data (map (λ reply. reply.row) replies)
+reply_data (R.Front accepted published) = front_data accepted published
+reply_data (R.FrontUnknown asked have) = front_unknown_data asked have
 reply_data (R.Refused refused) = refusal_data refused
 reply_data (R.Line fault) = fault_data fault
 reply_data R.StoreFailed = error_data (codes "store_failed")
@@ -31,6 +34,8 @@ abbrev pub reply_status : Reply → ℕ
 reply_status (R.Done done) = 200
 reply_status (R.Row reply) = 200
 reply_status (R.RowList replies) = 200
+reply_status (R.Front accepted published) = 200
+reply_status (R.FrontUnknown asked have) = 409
 reply_status (R.Refused refused) = refusal_status refused.broken
 reply_status (R.Line fault) = fault_status fault
 reply_status R.StoreFailed = 503

@@ -3,14 +3,17 @@
 //! # What is promised
 //!
 //! - `read_body` is the request that a route and a body ask a shop for, or what is wrong with the
-//!   body (`answer`).
-//! - `reply_text` and `reply_status` are the body and the status of each reply; the same is said of
-//!   rows that are lent.
+//!   body (`answer`), of every route.
+//! - `reply_text` is the status and the body of each reply; the body of rows that are lent is that of
+//!   their reply, printed into memory that is handed in (`seen_row_text`, `seen_list_text`).
+//! - The paths of the interface may be handed to another thread (`law_of_threads`).
 #![tactic(auto)]
 
 mod body;
 mod reply;
+mod threads;
 
 pub use body::read_body;
 pub use body_json::BodyFault;
-pub use reply::{reply_status, reply_text, seen_list_text, seen_row_text};
+pub use reply::{reply_text, seen_list_text, seen_row_text};
+pub use threads::law_of_threads;

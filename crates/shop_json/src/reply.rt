@@ -1,5 +1,5 @@
 //! Replies as JSON.
-ghost use Rattle.std.specs.Prelude.{◌≡◌, map, IfOk};
+ghost use Rattle.std.specs.Prelude.{◌≡◌, map, IfOk, OnOk};
 ghost use Rattle.std.specs.Option.{option_map};
 ghost use Rattle.shop_core.specs.declared.answers.Reply.TheVariants as replies;
 ghost use Rattle.shop_chain.specs.Showing.{lent};
@@ -8,8 +8,8 @@ ghost use Rattle.shop_core.specs.Seeing.{reply_of};
 ghost use Rattle.shop_json.specs.Replying as spec;
 
 use reply_json::{
-    done_text, fault_status, fault_text, refusal_status, refusal_text, row_text, rows_text,
-    seen_text,
+    done_text, fault_status, fault_text, front_text, front_unknown_text, refusal_status,
+    refusal_text, row_text, rows_text, seen_text,
 };
 use shop_chain::{Shown, ShownValue};
 use shop_core::{Reply, RowReply, RowSeen};
@@ -22,41 +22,31 @@ const STORE_FAILED: &[u8] = b"{\"error\":\"store_failed\"}";
 /// The body where memory was refused.
 const NO_MEMORY: &[u8] = b"{\"error\":\"no_memory\"}";
 
-/// The status of the response to a request that was answered so (RFC 9110, section 15).
-pub fn reply_status(reply: &Reply) -> u16
-    ensures { result ≡ spec.reply_status reply.now }
-{
-    match reply {
-        Reply::Done(_) | Reply::Row(_) | Reply::RowList(_) => 200,
-        Reply::Refused(refused) => refusal_status(&refused.broken),
-        Reply::Line(fault) => fault_status(fault),
-        Reply::StoreFailed => 503,
-        Reply::NoMemory => 507,
-    }
-}
-
-/// The status and the body of a reply: compact JSON, whose objects have their members in the order of
-/// the bytes of their names; what is shown beside a row stands in the order in which the reply has it,
-/// which is that order too in each reply of a shop. Want of memory is the only error.
+/// The status (RFC 9110, section 15) and the body of the response to a request that was answered so.
+///
+/// The body is compact JSON, whose objects have their members in the order of the bytes of their names;
+/// what is shown beside a row stands in the order in which the reply has it, which is that order too in
+/// each reply of a shop. Want of memory is the only error.
+#[tactic(auto, unfolding(crate::specs::Replying::reply_body))]
 pub fn reply_text(alloc: Global, reply: &Reply) -> Result<(u16, List<u8>), NoMemory>
     ensures { IfOk result (λ text. (text.0 ≡ spec.reply_status reply.now) × (text.1 ≡ spec.reply_body reply.now)) }
 {
-    let body = reply_body(alloc, reply)?;
-    Ok((reply_status(reply), body))
-}
-
-#[tactic(auto, unfolding(crate::specs::Replying::reply_body))]
-fn reply_body(alloc: Global, reply: &Reply) -> Result<List<u8>, NoMemory>
-    ensures { IfOk result (λ body. body ≡ spec.reply_body reply.now) }
-{
     match reply {
-        Reply::Done(done) => done_text(alloc, done.front, done.value),
-        Reply::Row(reply) => row_text(alloc, &reply.row, if_any(&reply.shown)),
-        Reply::RowList(replies) => replied_text(alloc, replies.as_slice()),
-        Reply::Refused(refused) => refusal_text(alloc, refused),
-        Reply::Line(fault) => fault_text(alloc, fault),
-        Reply::StoreFailed => copy_body(alloc, STORE_FAILED),
-        Reply::NoMemory => copy_body(alloc, NO_MEMORY),
+        Reply::Done(done) => Ok((200, done_text(alloc, done.front, done.value)?)),
+        Reply::Row(reply) => Ok((200, row_text(alloc, &reply.row, if_any(&reply.shown))?)),
+        Reply::RowList(replies) => Ok((200, replied_text(alloc, replies.as_slice())?)),
+        Reply::Front {
+            accepted,
+            published,
+        } => Ok((200, front_text(alloc, *accepted, *published)?)),
+        Reply::FrontUnknown { asked, have } => Ok((409, front_unknown_text(alloc, *asked, *have)?)),
+        Reply::Refused(refused) => Ok((
+            refusal_status(&refused.broken),
+            refusal_text(alloc, refused)?,
+        )),
+        Reply::Line(fault) => Ok((fault_status(fault), fault_text(alloc, fault)?)),
+        Reply::StoreFailed => Ok((503, copy_body(alloc, STORE_FAILED)?)),
+        Reply::NoMemory => Ok((507, copy_body(alloc, NO_MEMORY)?)),
     }
 }
 
@@ -79,16 +69,19 @@ fn replied_text(alloc: Global, rows: &[RowReply]) -> Result<List<u8>, NoMemory>
     for reply in rows {
         listed.push(&reply.row)?;
     }
-    rows_text(alloc, listed.as_slice())
+    let mut room = Vec::new(alloc);
+    rows_text(alloc, &mut room, listed.as_slice())?;
+    Ok(List::from_vec(room))
 }
 
-/// The body of the reply that shows this row, printed where it stands: it is that of `reply_text`.
-/// Want of memory is the only error.
+/// Prints the body of the reply that shows this row where it stands, which is that of `reply_text`, into
+/// memory that the caller keeps for this. What was there is let go, and no memory is taken where there is
+/// enough. Want of memory is the only error.
 #[tactic(auto, unfolding(crate::specs::Replying::reply_body))]
-pub fn seen_row_text(alloc: Global, seen: &RowSeen<'_>) -> Result<List<u8>, NoMemory>
-    ensures { IfOk result (λ body. body ≡ spec.reply_body (replies.Row (reply_of seen.now))) }
+pub fn seen_row_text(alloc: Global, room: &mut Vec<u8>, seen: &RowSeen<'_>) -> Result<(), NoMemory>
+    ensures { OnOk result (room.new.items ≡ spec.reply_body (replies.Row (reply_of seen.now))) }
 {
-    seen_text(alloc, seen.row, if_any_seen(&seen.shown))
+    seen_text(alloc, room, seen.row, if_any_seen(&seen.shown))
 }
 
 /// What is lent to be shown beside a row, unless it is nothing.
@@ -101,16 +94,17 @@ fn if_any_seen<'s, 'a>(shown: &'s Shown<'a>) -> Option<&'s [ShownValue<'a>]>
     }
 }
 
-/// The body of the reply that lists these rows, printed where they stand: it is that of `reply_text`.
-/// Want of memory is the only error.
-pub fn seen_list_text(alloc: Global, rows: &[Row]) -> Result<List<u8>, NoMemory>
-    ensures { IfOk result (λ body. body ≡ spec.reply_body (replies.RowList (map bare rows.now))) }
+/// Prints the body of the reply that lists these rows where they stand, as `seen_row_text` does. The
+/// references to them are the only memory that is always taken.
+#[tactic(auto, unfolding(crate::specs::Replying::reply_body))]
+pub fn seen_list_text(alloc: Global, room: &mut Vec<u8>, rows: &[Row]) -> Result<(), NoMemory>
+    ensures { OnOk result (room.new.items ≡ spec.reply_body (replies.RowList (map bare rows.now))) }
 {
     let mut listed = Vec::with_capacity(alloc, rows.len())?;
     for row in rows {
         listed.push(row)?;
     }
-    rows_text(alloc, listed.as_slice())
+    rows_text(alloc, room, listed.as_slice())
 }
 
 fn copy_body(alloc: Global, body: &[u8]) -> Result<List<u8>, NoMemory>

@@ -52,16 +52,23 @@ pub fn read_id(text: &[u8]) -> Option<u128>
     if id == 0 { None } else { Some(id) }
 }
 
-/// The text of an id: its 32 digits. It takes no memory.
+/// The text of an id, its 32 digits, written into a buffer and lent. It takes no memory.
 ///
 /// The text reads as that id again. For 0, which is no id, it is 32 times `0`, which reads as none.
+pub fn write_id(id: u128, buffer: &mut [u8; 32]) -> &str
+    ensures text { result.now ≡ id_text id }
+    ensures reads { id_of result.now ≡ unless_zero id }
+{
+    Uuid::from_u128(id).simple().encode_lower(buffer)
+}
+
+/// The text of an id: its 32 digits, as `write_id` lends them. It takes no memory.
 pub fn print_id(id: u128) -> [u8; 32]
     ensures text { result ≡ id_text id }
     ensures reads { id_of result ≡ unless_zero id }
 {
     let mut buffer = [0; DIGITS];
-    let text = Uuid::from_u128(id).simple().encode_lower(&mut buffer);
     let mut digits = [0; DIGITS];
-    digits.copy_from_slice(text.as_bytes());
+    digits.copy_from_slice(write_id(id, &mut buffer).as_bytes());
     digits
 }

@@ -32,7 +32,7 @@ mod route;
 pub use check::{ValueFault, check_kind, check_value, value_fault};
 pub use command::{Action, Command};
 pub use day::{print_day, read_day};
-pub use ids::{print_id, read_id};
+pub use ids::{print_id, read_id, write_id};
 pub use line_fault::LineFault;
 pub use query::{Query, RowRead};
 pub use raw::{Raw, RawOp};

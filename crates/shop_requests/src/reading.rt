@@ -282,7 +282,7 @@ fn read_in(
 ) -> Result<List<(u8, Option<Value>)>, NoMemory>
     ensures { IfOk result (λ read. read ≡ spec.read_in table.now fields.now) }
 {
-    let mut read = List::new(alloc);
+    let mut read = List::from_vec(Vec::with_capacity(alloc, fields.len())?);
     for info in table {
         if let Some(field) = read_field(alloc, *info, fields)? {
             read.push(field)?;

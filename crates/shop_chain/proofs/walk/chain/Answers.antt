@@ -11,4 +11,4 @@ returns-clause-words c =
     let parent : ℕ → Option ℕ = λ _. c.parent_of.result in
     let is : c.with.result ≡ chain_by parent context =
     c.with.ensures.value ∙ (ap (λ ids. with_language ids SYSTEM_LANGUAGE) c.with_ancestors.ensures.value ∙ sym (each_once-append (walk parent most_ancestors context) SYSTEM_LANGUAGE)) in
-    subst (λ ids. IsChain context ids) (sym is) (chain_by-words parent context)
+    subst (λ above. IsChain context above c.with.result) c.parent_of.ensures (subst (λ ids. IsChain context c.parent_of.result ids) (sym is) (chain_by-words parent context))

@@ -5,7 +5,7 @@ use Rattle.shop_requests.proofs.reading.read_in.Goals.{in-Some+in_ok-push, in_de
 
 pub loop-info-preserved : goal.loop-info-preserved
 loop-info-preserved c =
-    elim c.match-branch-2.branch [
+    elim c.match-branch-3.branch [
       | in-Some+in_ok-push w ↦
           let more = read_in_given c.args.table.now c.args.fields.now c.loop-info.info-index _ w.in-Some.field (omega arith) (sym w.in-Some.is ∙ c.in_ok-field.ensures) in
           cc (more, w.in_ok-push.ensures.ok)

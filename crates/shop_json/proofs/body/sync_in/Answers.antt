@@ -1,0 +1,16 @@
+use Rattle.std.proofs.Common.{sym, subst, ap, Err}
+use Rattle.shop_requests.specs.declared.command.Command.TheVariants as commands
+use Rattle.shop_requests.specs.declared.route.Route.TheVariants as routes
+use Rattle.body_json.specs.Shapes.{batch}
+use Rattle.shop_json.specs.Asking.{Reads, as_write, request_in}
+use Rattle.shop_json.proofs.Bodies.{err_is, is_said, not_said}
+use Rattle.shop_json.proofs.body.sync_in.Goals as goal
+
+pub returns-in_err-ops-clause-answer : goal.returns-in_err-ops-clause-answer
+returns-in_err-ops-clause-answer c =
+    let fault = c.in_err-ops.field-0.0 in
+    subst (λ answer. Reads (request_in (routes.Sync c.args.version) c.args.body.now) answer) (sym (err_is c.from_residual.result fault c.from_residual.ensures.1))
+    (not_said batch (λ x. commands.Sync c.args.version x) c.args.body.now fault c.in_err-ops.ensures.answer)
+
+pub returns-clause-answer : goal.returns-clause-answer
+returns-clause-answer c = ap (as_write (λ x. commands.Sync c.args.version x)) (is_said batch c.args.body.now c.in_ok-ops.ops c.in_ok-ops.ensures.answer)
