@@ -1,5 +1,5 @@
 -- Each way in which the cut goes, and that it keeps what a cut has to keep.
-use Rattle.std.proofs.Common.{◌≡◌, ℕ, ◌+◌, ◌<◌, ◌≤◌, Bool, false, ◌==◌, ◌||◌, nat_le, List, ◌++◌, length, take, drop, map, if◌then◌else◌, refl, sym, ap, ◌∙◌, subst, inl, inr, arith, length-append, length-drop, length-take, take-append-drop, Option, Some, None, Result, Ok, Err}
+use Rattle.std.proofs.Common.{◌≡◌, ℕ, ◌+◌, ◌<◌, ◌≤◌, Bool, false, ◌==◌, ◌||◌, nat_le, List, ◌++◌, length, take, drop, map, if◌then◌else◌, refl, sym, ap, ◌∙◌, subst, inl, inr, arith, length-append, length-drop, length-take, take-append-drop, append-nil, ◌⊎◌, Option, Some, None, Result, Ok, Err, [], ◌∷◌}
 use Rattle.std.specs.Prelude.{codes}
 use Rattle.std.proofs.lemmas.Bool.{cases_lt, lt-ltb, le-ltb, le-leb, lt-leb}
 use Rattle.std.proofs.lemmas.List.{take-append-le, drop-append-le, length-take-le}
@@ -13,11 +13,12 @@ use Rattle.shop_http.specs.declared.next.Head.{Head}
 use Rattle.shop_http.specs.declared.next.Next.{Next}
 use Rattle.shop_http.specs.declared.next.Next.TheVariants.{Whole, More, Nothing, Cut, Fatal}
 use Rattle.shop_http.specs.declared.region.Begun.{Begun}
-use Rattle.shop_http.specs.Requests.{Request, Field, missing, once, twice, Front, whole, part, bad, IsCut, IsNext, request_of, field_of}
+use Rattle.shop_http.specs.Requests.{Request, Field, missing, once, twice, Front, whole, part, bad, IsCut, IsNext, IsNextLook, IsSettledAt, request_of, field_of}
 use Rattle.shop_http.specs.HeadReader.{head_of}
 use Rattle.shop_http.specs.Heads.{head_end, fields_of, named, length_of, size_of, body_size, asks_to_close, request_with, sized, judged, with_body, cut_at, head_cut}
 use Rattle.shop_http.specs.Laws.{longest}
-use Rattle.shop_http.specs.Words.{IsFound, IsJudged, IsUnfinished, front_from}
+use Rattle.shop_http.specs.declared.fields.Fields.{Fields}
+use Rattle.shop_http.specs.Words.{AreFields, IsFound, IsJudged, IsUnfinished, front_from}
 use Rattle.shop_http.proofs.Ends.{end_within, end_more, end_late}
 use Rattle.shop_http.proofs.HeadReading.{heads_are_read}
 
@@ -210,6 +211,20 @@ pub cut_judged : (bytes : List ℕ) (n : ℕ) (b : Begun) → head_end bytes ≡
     → head_cut bytes ≡ front_from b n (drop n bytes)
 cut_judged bytes n b e fits j = cut_head bytes n (the_region n bytes) e fits refl ∙ judged_body b n (drop n bytes) (the_region n bytes) j
 
+-- the same where more bytes follow
+pub judged_more : (bytes : List ℕ) (n : ℕ) (b : Begun) → head_end bytes ≡ Some n → n ≤ 16384 → IsJudged (the_region n bytes) (Ok b)
+    → (more : List ℕ) → head_cut (bytes ++ more) ≡ front_from b n (drop n (bytes ++ more))
+judged_more bytes n b e fits j more =
+    cut_judged (bytes ++ more) n b (end_more bytes more n e) fits (subst (λ (r : Judged). IsJudged r (Ok b)) (sym (region_stays bytes more n e)) j)
+
+judged_fits : (b : Begun) (r : Judged) → ((p : RequestHead × ℕ) → r ≡ Ok p → p.1 ≤ 1048576) → IsJudged r (Ok b) → b.size ≤ 1048576
+judged_fits b (Err f) small j = absurd j
+judged_fits b (Ok p) small j = omega (arith, j.1, small p refl)
+
+-- no body of a head is larger than a body may be
+pub size_fits : (bytes : List ℕ) (n : ℕ) (b : Begun) → IsJudged (the_region n bytes) (Ok b) → b.size ≤ 1048576
+size_fits bytes n b j = judged_fits b (the_region n bytes) (judged_small (head_of (take n bytes))) j
+
 judged_fault : (n : ℕ) (behind : List ℕ) (f : HeadFault) (r : Judged) → IsJudged r (Err f) → with_body r n behind ≡ bad f
 judged_fault n behind f (Err g) j = ap bad (sym j)
 judged_fault n behind f (Ok p) j = absurd j
@@ -218,20 +233,93 @@ pub cut_fault : (bytes : List ℕ) (n : ℕ) (f : HeadFault) → head_end bytes 
     → head_cut bytes ≡ bad f
 cut_fault bytes n f e fits j = cut_head bytes n (the_region n bytes) e fits refl ∙ judged_fault n (drop n bytes) f (the_region n bytes) j
 
-pub next_same : (front : Front HeadFault) (bytes : List ℕ) (ended : Bool) (n : Next HeadFault) → head_cut bytes ≡ front → IsNext (λ _. front) bytes ended n
-    → IsNext head_cut bytes ended n
-next_same front bytes ended (Whole head body m) e p = e ∙ p
-next_same front bytes ended More e p = (e ∙ p.0, p.1)
-next_same front bytes ended Nothing e p = (e ∙ p.0, p.1, p.2)
-next_same front bytes ended Cut e p = (e ∙ p.0, p.1, p.2)
-next_same front bytes ended (Fatal f) e p = e ∙ p
+-- ---- the next look
 
-pub next_unfinished : (bytes : List ℕ) (ended : Bool) (n : Next HeadFault) → IsUnfinished bytes ended n → head_cut bytes ≡ part → IsNext head_cut bytes ended n
-next_unfinished bytes ended (Whole head body m) p e = absurd p
-next_unfinished bytes ended More p e = (e, p)
-next_unfinished bytes ended Nothing p e = (e, p.0, p.1)
-next_unfinished bytes ended Cut p e = (e, p.0, p.1)
-next_unfinished bytes ended (Fatal f) p e = absurd p
+settled_same : (cut like : List ℕ → Front HeadFault) (bytes : List ℕ) (least : ℕ) → ((more : List ℕ) → cut (bytes ++ more) ≡ like (bytes ++ more))
+    → IsSettledAt like bytes least → IsSettledAt cut bytes least
+settled_same cut like bytes least same s = λ more far h. s more far (sym (same more) ∙ h)
+
+pub settles_same : (bytes : List ℕ) (n : ℕ) (b : Begun) (least : ℕ) → head_end bytes ≡ Some n → n ≤ 16384 → IsJudged (the_region n bytes) (Ok b)
+    → IsSettledAt (λ bs. front_from b n (drop n bs)) bytes least → IsSettledAt head_cut bytes least
+settles_same bytes n b least e fits j s = settled_same head_cut (λ bs. front_from b n (drop n bs)) bytes least (judged_more bytes n b e fits j) s
+
+look_same : (cut like : List ℕ → Front HeadFault) (bytes : List ℕ) (least : ℕ) → ((more : List ℕ) → cut (bytes ++ more) ≡ like (bytes ++ more))
+    → IsNextLook like bytes least → IsNextLook cut bytes least
+look_same cut like bytes least same l = record {
+  more = l.more;
+  before = λ more less. same more ∙ l.before more less;
+  then_new = elim l.then_new as (λ _. (least ≡ length bytes + 1) ⊎ IsSettledAt cut bytes least) [
+    | inl e ↦ inl e
+    | inr s ↦ inr (settled_same cut like bytes least same s)
+  ];
+}
+
+pub next_same : {R : Type 0} (cut like : List ℕ → Front HeadFault) (bytes : List ℕ) (ended : Bool) (n : Next HeadFault R)
+    → ((more : List ℕ) → cut (bytes ++ more) ≡ like (bytes ++ more)) → IsNext like bytes ended n → IsNext cut bytes ended n
+next_same {R = R} cut like bytes ended n same p = by n p
+  where
+    here : cut bytes ≡ like bytes
+    here = ap cut (sym (append-nil bytes)) ∙ same [] ∙ ap like (append-nil bytes)
+
+    by : (m : Next HeadFault R) → IsNext like bytes ended m → IsNext cut bytes ended m
+    by (Whole head body m found) p = here ∙ p
+    by (More least) p = (here ∙ p.0, p.1, look_same cut like bytes least same p.2)
+    by Nothing p = (here ∙ p.0, p.1, p.2)
+    by Cut p = (here ∙ p.0, p.1, p.2)
+    by (Fatal f) p = here ∙ p
+
+pub next_unfinished : {R : Type 0} (cut : List ℕ → Front HeadFault) (bytes : List ℕ) (least : ℕ) (ended : Bool) (n : Next HeadFault R) → IsUnfinished bytes least ended n
+    → cut bytes ≡ part → IsNextLook cut bytes least → IsNext cut bytes ended n
+next_unfinished cut bytes least ended (Whole head body m found) p e l = absurd p
+next_unfinished cut bytes least ended (More wanted) p e l = (e, p.0, subst (IsNextLook cut bytes) (sym p.1) l)
+next_unfinished cut bytes least ended Nothing p e l = (e, p.0, p.1)
+next_unfinished cut bytes least ended Cut p e l = (e, p.0, p.1)
+next_unfinished cut bytes least ended (Fatal f) p e l = absurd p
+
+pub asks_for : {R : Type 0} (bytes : List ℕ) (least wanted : ℕ) (ended : Bool) (n : Next HeadFault R) → IsUnfinished bytes least ended n → n ≡ More wanted → wanted ≡ least
+asks_for bytes least wanted ended (Whole head body m found) p e = absurd p
+asks_for bytes least wanted ended (More other) p e = (let same : other ≡ wanted = cc in sym same ∙ p.1)
+asks_for bytes least wanted ended Nothing p e = absurd (cc)
+asks_for bytes least wanted ended Cut p e = absurd (cc)
+asks_for bytes least wanted ended (Fatal f) p e = absurd p
+
+none_in : (xs : List ℕ) → length xs < 1 → xs ≡ []
+none_in [] less = refl
+none_in (x ∷ xs) less = absurd (omega arith)
+
+-- where the head goes on, one byte more is asked for
+pub one_more_look : (bytes : List ℕ) → head_cut bytes ≡ part → IsNextLook head_cut bytes (length bytes + 1)
+one_more_look bytes h = record {
+  more = omega arith;
+  before = λ more less. ap (λ t. head_cut (bytes ++ t)) (none_in more (omega (arith, less, length-append bytes more))) ∙ ap head_cut (append-nil bytes) ∙ h;
+  then_new = inl refl;
+}
+
+-- behind a head, all of its body
+module _ (b : Begun) (n : ℕ) where
+  abbrev body_front : List ℕ → Front HeadFault
+  body_front bytes = front_from b n (drop n bytes)
+
+  pub front_short : (bytes : List ℕ) → length (drop n bytes) < b.size → body_front bytes ≡ part
+  front_short bytes less =
+      ap (λ (t : Bool). if t then whole (request_of b.head (take b.size (drop n bytes))) (n + b.size) else part) (lt-leb b.size (length (drop n bytes)) less)
+
+  front_there : (bytes : List ℕ) → b.size ≤ length (drop n bytes) → body_front bytes ≡ part → ⊥
+  front_there bytes there h =
+      let is_whole : body_front bytes ≡ whole (request_of b.head (take b.size (drop n bytes))) (n + b.size) =
+      ap (λ (t : Bool). if t then whole (request_of b.head (take b.size (drop n bytes))) (n + b.size) else part) (le-leb b.size (length (drop n bytes)) there) in
+      let no = sym is_whole ∙ h in
+      cc
+
+  pub body_settles : (bytes : List ℕ) → IsSettledAt body_front bytes (n + b.size)
+  body_settles bytes = λ more far h. front_there (bytes ++ more) (omega (arith, far, length-drop n (bytes ++ more))) h
+
+  pub body_look : (bytes : List ℕ) → n ≤ length bytes → length (drop n bytes) < b.size → IsNextLook body_front bytes (n + b.size)
+  body_look bytes within less = record {
+    more = omega (arith, less, length-drop n bytes);
+    before = λ more few. front_short (bytes ++ more) (omega (arith, few, within, length-drop n (bytes ++ more), length-append bytes more));
+    then_new = inr (body_settles bytes);
+  }
 
 -- ---- what the code makes of a region
 
@@ -247,6 +335,11 @@ pub found_fault : (region : List ℕ) (spans : List HeaderSpan) (found : Request
     → body_size (the_fields region spans found) ≡ Err g → IsJudged (judged (head_of region)) (Err g)
 found_fault region spans found g f e =
     subst (λ (r : Judged). IsJudged r (Err g)) (sym (found_is region spans found f ∙ ap (sized f.head) e)) refl
+
+-- the size by the fields that were found
+pub size_by : (found : Fields) (fields : List (List ℕ × List ℕ)) → AreFields found fields → body_size fields ≡ size_of (length_of (field_of found.length)) (field_of found.coding)
+unfolding body_size
+size_by found fields f = ap (λ n. size_of (length_of n) (named (codes "transfer-encoding") fields)) (sym f.length) ∙ ap (size_of (length_of (field_of found.length))) (sym f.coding)
 
 -- the head that is made has the parts of the head that was found
 pub record HasParts (region : List ℕ) (found : RequestSpans) (fields : List (List ℕ × List ℕ)) (h : Head) : Type 0 where

@@ -95,7 +95,7 @@ empty_within bytes = elim (line_of bytes) as (λ _. empty_line bytes ≤ length 
   | other none ↦ omega (arith, none_of bytes none)
 ]
 
-empty_small : (bytes : List ℕ) → empty_line bytes ≤ 2
+pub empty_small : (bytes : List ℕ) → empty_line bytes ≤ 2
 empty_small bytes = elim (line_of bytes) as (λ _. empty_line bytes ≤ 2) [
   | lf_first rest e ↦ omega (arith, ap empty_line e, at_lf rest)
   | crlf_first rest e ↦ omega (arith, ap empty_line e, at_crlf rest)
@@ -106,13 +106,13 @@ empty_small bytes = elim (line_of bytes) as (λ _. empty_line bytes ≤ 2) [
 
 -- ---- the end of a head
 
-abbrev ends_here : ℕ → List ℕ → Bool
+abbrev pub ends_here : ℕ → List ℕ → Bool
 ends_here b bytes = b == 10 && nat_lt 0 (empty_line bytes)
 
 abbrev end_by : Bool → List ℕ → Option ℕ
 end_by t bytes = if t then Some (suc (empty_line bytes)) else option_map suc (head_end bytes)
 
-no_end : head_end [] ≡ None
+pub no_end : head_end [] ≡ None
 unfolding head_end
 no_end = refl
 
@@ -134,11 +134,11 @@ pub end_other : (b : ℕ) (bytes : List ℕ) → b ≢ 10 → head_end (b ∷ by
 end_other b bytes n = end_later b bytes (and_left (b == 10) (nat_lt 0 (empty_line bytes)) (ne_eqb b 10 n))
 
 -- either it ends here, or later
-data Way (b : ℕ) (bytes : List ℕ) : Type 0 where
+pub data Way (b : ℕ) (bytes : List ℕ) : Type 0 where
   here : b ≡ 10 → 0 < empty_line bytes → head_end (b ∷ bytes) ≡ Some (suc (empty_line bytes)) → Way b bytes
   later : ends_here b bytes ≡ false → head_end (b ∷ bytes) ≡ option_map suc (head_end bytes) → Way b bytes
 
-way : (b : ℕ) (bytes : List ℕ) → Way b bytes
+pub way : (b : ℕ) (bytes : List ℕ) → Way b bytes
 way b bytes = by_test (ends_here b bytes) refl
   where
     by_test : (t : Bool) → ends_here b bytes ≡ t → Way b bytes
@@ -147,12 +147,16 @@ way b bytes = by_test (ends_here b bytes) refl
         here (eqb-true b 10 both.0) (ltb-true 0 (empty_line bytes) both.1) (end_cons b bytes ∙ ap (λ (t : Bool). end_by t bytes) e)
     by_test false e = later e (end_later b bytes e)
 
+-- where it ends here, the test says so
+pub no_test : (b : ℕ) (bytes : List ℕ) → b ≡ 10 → 0 < empty_line bytes → ends_here b bytes ≡ false → ⊥
+no_test b bytes lf some isnt = both_ways (ends_here b bytes) isnt (and_from (b == 10) (nat_lt 0 (empty_line bytes)) (eq-eqb b 10 lf) (lt-ltb 0 (empty_line bytes) some))
+
 -- the one less that an end is at behind the first byte
-less_one : (o : Option ℕ) (n : ℕ) → option_map suc o ≡ Some n → (m : ℕ) × (o ≡ Some m) × (suc m ≡ n)
+pub less_one : (o : Option ℕ) (n : ℕ) → option_map suc o ≡ Some n → (m : ℕ) × (o ≡ Some m) × (suc m ≡ n)
 less_one None n e = absurd (cc)
 less_one (Some m) n e = (m, refl, cc)
 
-none_less : (o : Option ℕ) → option_map suc o ≡ None → o ≡ None
+pub none_less : (o : Option ℕ) → option_map suc o ≡ None → o ≡ None
 none_less None e = refl
 none_less (Some m) e = absurd (cc)
 

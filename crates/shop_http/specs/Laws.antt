@@ -1,9 +1,9 @@
 -- What holds of the cut.
-use Rattle.std.specs.Prelude.{ℕ, ◌≡◌, ◌+◌, ◌≤◌, ◌↔◌, List, [], length, Some}
+use Rattle.std.specs.Prelude.{ℕ, suc, ◌≡◌, ◌+◌, ◌<◌, ◌≤◌, ◌↔◌, List, [], length, drop, slice_index_or, Some}
 use Rattle.httparse.specs.Grammar.{RequestHead, ReadsRequest}
 use Rattle.shop_http.specs.Requests.{IsCut}
 use Rattle.shop_http.specs.HeadReader.{head_of}
-use Rattle.shop_http.specs.Heads.{head_cut}
+use Rattle.shop_http.specs.Heads.{empty_line, head_cut, head_end}
 
 -- the region is, as a whole, this head of the grammar, with at most 64 fields
 pub record IsHeadOf (region : List ℕ) (h : RequestHead) : Type 0 where
@@ -21,3 +21,15 @@ longest = 16384 + 1048576
 -- the cut keeps what a way to cut has to keep
 abbrev pub TheCutIsLawful : Type 0
 TheCutIsLawful = IsCut head_cut longest
+
+-- of the first n bytes, the last are an empty line behind a line end
+pub record EndsAt (bytes : List ℕ) (n : ℕ) : Type 0 where
+  pub line : ℕ
+  pub within : line < length bytes
+  pub ends : slice_index_or bytes line 0 ≡ 10
+  pub empty : 0 < empty_line (drop (suc line) bytes)
+  pub is_end : n ≡ suc line + empty_line (drop (suc line) bytes)
+
+-- a head ends at the least such place
+abbrev pub TheEndIsTheLeast : Type 0
+TheEndIsTheLeast = (bytes : List ℕ) (n : ℕ) → (head_end bytes ≡ Some n) ↔ (EndsAt bytes n × ((m : ℕ) → EndsAt bytes m → n ≤ m))

@@ -1,6 +1,6 @@
 -- A stream of bytes as a list of requests, for any way to cut a request off the front of it.
 -- F is the type of the faults for which a front is refused.
-use Rattle.std.specs.Prelude.{ℕ, zero, suc, ◌≡◌, ◌<◌, ◌≤◌, ◌++◌, Bool, true, false, ◌==◌, List, [], ◌∷◌, length, drop, cond}
+use Rattle.std.specs.Prelude.{ℕ, zero, suc, ◌+◌, ◌≡◌, ◌<◌, ◌≤◌, ◌++◌, ◌⊎◌, Bool, true, false, ◌==◌, List, [], ◌∷◌, length, drop, cond}
 use Rattle.shop_http.specs.declared.next.Given.{Given}
 use Rattle.shop_http.specs.declared.next.Given.TheVariants.{Missing, Once, Twice}
 use Rattle.shop_http.specs.declared.next.Head.{Head}
@@ -86,10 +86,21 @@ request_of h body = record {
   body = body;
 }
 
+-- With so many bytes or more, beginning with these, the front is settled.
+abbrev pub IsSettledAt : {F : Type 0} → (List ℕ → Front F) → List ℕ → ℕ → Type 0
+IsSettledAt cut bytes least = (more : List ℕ) → least ≤ length (bytes ++ more) → cut (bytes ++ more) ≡ part → ⊥
+
+-- The least length at which there is something new to see: with fewer bytes than that the front isn't settled, and with so many
+-- it is, unless no more was asked for than one byte.
+pub record IsNextLook {F : Type 0} (cut : List ℕ → Front F) (bytes : List ℕ) (least : ℕ) : Type 0 where
+  pub more : length bytes < least
+  pub before : (more : List ℕ) → length (bytes ++ more) < least → cut (bytes ++ more) ≡ part
+  pub then_new : (least ≡ length bytes + 1) ⊎ IsSettledAt cut bytes least
+
 -- which answer stands for the front of these bytes, where `ended` says that no more come
-abbrev pub IsNext : {F : Type 0} → (List ℕ → Front F) → List ℕ → Bool → Next F → Type 0
-IsNext cut bytes ended (Whole head body used) = cut bytes ≡ whole (request_of head body.now) used
-IsNext cut bytes ended More = (cut bytes ≡ part) × (ended ≡ false)
+abbrev pub IsNext : {F R : Type 0} → (List ℕ → Front F) → List ℕ → Bool → Next F R → Type 0
+IsNext cut bytes ended (Whole head body used found) = cut bytes ≡ whole (request_of head body.now) used
+IsNext cut bytes ended (More least) = (cut bytes ≡ part) × (ended ≡ false) × IsNextLook cut bytes least
 IsNext cut bytes ended Nothing = (cut bytes ≡ part) × (ended ≡ true) × (bytes ≡ [])
 IsNext cut bytes ended Cut = (cut bytes ≡ part) × (ended ≡ true) × (0 < length bytes)
 IsNext cut bytes ended (Fatal f) = cut bytes ≡ bad f

@@ -40,9 +40,13 @@ start_line status = codes "HTTP/1.1 " ++ decimal status ++ codes " " ++ phrase_o
 unfoldable pub content_lines : ℕ → List ℕ
 content_lines size = codes "content-type: application/json" ++ crlf ++ codes "content-length: " ++ decimal size ++ crlf
 
+-- the head of a response with a body of so many bytes
+abbrev pub head_text : ℕ → ℕ → Option Method2 → Bool → List ℕ
+head_text status size allow closing =
+    start_line status ++ content_lines size ++ allow_line allow ++ close_line closing ++ crlf
+
 unfoldable pub response_text : ℕ → List ℕ → Option Method2 → Bool → List ℕ
-response_text status body allow closing =
-    start_line status ++ content_lines (length body) ++ allow_line allow ++ close_line closing ++ crlf ++ body
+response_text status body allow closing = head_text status (length body) allow closing ++ body
 
 -- the response where memory ran out
 abbrev pub no_memory_text : Bool → List ℕ

@@ -6,9 +6,9 @@ ghost use Rattle.std.specs.Str.{str_eq_ignore_ascii_case};
 ghost use Rattle.std.specs.Str.Parse.{digits_value};
 ghost use Rattle.httparse.specs.Grammar.{is_ows, skip_ows, trim_ows};
 ghost use Rattle.httparse.specs.Spans.{header_bytes, IsHeaderWithin};
-ghost use Rattle.shop_http.specs.Heads.{asks_to_close, body_size, has_close, is_close, is_closing, is_number, length_of, named};
+ghost use Rattle.shop_http.specs.Heads.{has_close, is_close, is_closing, is_number, length_of, size_of};
 ghost use Rattle.shop_http.specs.Requests.{field_of};
-ghost use Rattle.shop_http.specs.Words.{capped, once_more};
+ghost use Rattle.shop_http.specs.Words.{AreFields, HasOneMore, capped, once_more};
 
 use crate::next::{Given, HeadFault};
 use httparse::spans::HeaderSpan;
@@ -16,26 +16,67 @@ use httparse::spans::HeaderSpan;
 /// No body of a request is longer than that, in bytes.
 const LONGEST_BODY: usize = 1_048_576;
 
-/// What the fields of a name are given, in any case.
-#[tactic(auto, unfolding(crate::specs::Heads::named, crate::specs::Heads::values))]
-pub fn lookup<'b>(region: &'b [u8], fields: &[HeaderSpan], name: &str) -> Given<'b>
+/// The fields of a head that are looked at, by their values.
+#[derive(Clone, Copy)]
+pub struct Fields<'b> {
+    /// The field `content-length`.
+    pub length: Given<'b>,
+    /// The field `transfer-encoding`.
+    pub coding: Given<'b>,
+    pub language: Given<'b>,
+    pub version: Given<'b>,
+    pub inheritance: Given<'b>,
+    pub min_front: Given<'b>,
+    /// Whether a field `connection` has the element `close`.
+    pub closing: bool,
+}
+
+const NO_FIELDS: Fields<'static> = Fields {
+    length: Given::Missing,
+    coding: Given::Missing,
+    language: Given::Missing,
+    version: Given::Missing,
+    inheritance: Given::Missing,
+    min_front: Given::Missing,
+    closing: false,
+};
+
+/// The fields that are looked at, in one pass over all of them.
+pub fn look_up<'b>(region: &'b [u8], fields: &[HeaderSpan]) -> Fields<'b>
     requires { All (IsHeaderWithin (length region.now)) fields.now }
-    ensures { field_of result ≡ named name.now (map (header_bytes region.now) fields.now) }
+    ensures { AreFields result (map (header_bytes region.now) fields.now) }
 {
-    let mut found = Given::Missing;
+    let mut found = NO_FIELDS;
     for field in fields {
-        found = with_field(region, found, *field, name);
+        found = with_field(region, found, *field);
     }
     found
 }
 
-fn with_field<'b>(region: &'b [u8], so_far: Given<'b>, field: HeaderSpan, name: &str) -> Given<'b>
+fn with_field<'b>(region: &'b [u8], so_far: Fields<'b>, field: HeaderSpan) -> Fields<'b>
     requires { IsHeaderWithin (length region.now) field }
-    ensures { field_of result ≡ (if str_eq_ignore_ascii_case (header_bytes region.now field).0 name.now
-        then once_more (field_of so_far.entry) (header_bytes region.now field).1 else field_of so_far.entry) }
+    ensures { HasOneMore so_far.entry (header_bytes region.now field) result }
 {
-    if is_named(field.name.of(region), name) {
-        one_more(so_far, field.value.of(region))
+    let name = field.name.of(region);
+    let value = field.value.of(region);
+    Fields {
+        length: with_value(so_far.length, name, "content-length", value),
+        coding: with_value(so_far.coding, name, "transfer-encoding", value),
+        language: with_value(so_far.language, name, "x-language-id", value),
+        version: with_value(so_far.version, name, "x-version-id", value),
+        inheritance: with_value(so_far.inheritance, name, "x-inheritance", value),
+        min_front: with_value(so_far.min_front, name, "x-min-front", value),
+        closing: so_far.closing || is_closing(name, value),
+    }
+}
+
+/// What the fields of a name are given with one field more, in any case.
+fn with_value<'b>(so_far: Given<'b>, name: &[u8], wanted: &str, value: &'b [u8]) -> Given<'b>
+    ensures { field_of result ≡ (if str_eq_ignore_ascii_case name.now wanted.now
+        then once_more (field_of so_far.entry) value.entry.now else field_of so_far.entry) }
+{
+    if is_named(name, wanted) {
+        one_more(so_far, value)
     } else {
         so_far
     }
@@ -57,13 +98,11 @@ fn one_more<'b>(so_far: Given<'b>, value: &'b [u8]) -> Given<'b>
 }
 
 /// How many bytes of a body follow the head (RFC 9112, section 6.3), or why such a body isn't taken.
-#[tactic(auto, unfolding(crate::specs::Heads::body_size))]
-pub fn body_size(region: &[u8], fields: &[HeaderSpan]) -> Result<usize, HeadFault>
-    requires { All (IsHeaderWithin (length region.now)) fields.now }
-    ensures { result ≡ body_size (map (header_bytes region.now) fields.now) }
+pub fn body_size(fields: &Fields<'_>) -> Result<usize, HeadFault>
+    ensures { result ≡ size_of (length_of (field_of fields.now.length)) (field_of fields.now.coding) }
 {
-    let length = content_length(lookup(region, fields, "content-length"))?;
-    match lookup(region, fields, "transfer-encoding") {
+    let length = content_length(fields.length)?;
+    match fields.coding {
         Given::Missing if length <= LONGEST_BODY => Ok(length),
         Given::Missing => Err(HeadFault::TooLarge),
         _ => Err(HeadFault::Chunked),
@@ -99,24 +138,11 @@ fn capped_number(digits: &[u8]) -> usize
     number
 }
 
-/// Whether an element of a `Connection` field is `close` (RFC 9110, section 7.6.1).
-#[tactic(auto, unfolding(crate::specs::Heads::asks_to_close))]
-pub fn asks_to_close(region: &[u8], fields: &[HeaderSpan]) -> bool
-    requires { All (IsHeaderWithin (length region.now)) fields.now }
-    ensures { result ≡ asks_to_close (map (header_bytes region.now) fields.now) }
+/// Whether a field is `Connection`, with an element `close` (RFC 9110, section 7.6.1).
+fn is_closing(name: &[u8], value: &[u8]) -> bool
+    ensures { result ≡ is_closing (name.now, value.now) }
 {
-    let mut closing = false;
-    for field in fields {
-        closing |= is_closing(region, *field);
-    }
-    closing
-}
-
-fn is_closing(region: &[u8], field: HeaderSpan) -> bool
-    requires { IsHeaderWithin (length region.now) field }
-    ensures { result ≡ is_closing (header_bytes region.now field) }
-{
-    is_named(field.name.of(region), "connection") && has_close(field.value.of(region))
+    is_named(name, "connection") && has_close(value)
 }
 
 fn has_close(value: &[u8]) -> bool

@@ -5,11 +5,14 @@
 //! - `next_request` says of any bytes which request stands at their front, or why none can (`IsNext
 //!   head_cut`), both ways: any head of httparse's grammar with at most 64 fields in 16,384 bytes,
 //!   a body by `Content-Length` up to 1,048,576 bytes, and the refusals of a bad head, a body in
-//!   chunks and one too large, in that order.
+//!   chunks and one too large, in that order. Of an unfinished one it says the least length at which
+//!   there is something new to see, and so reads no head more than twice.
 //! - `law_of_the_heads`: what is read as a head is a head of that grammar, both ways.
 //!   `law_of_the_cut`: more bytes never change a settled front, and what isn't settled is short.
-//! - `response` is the bytes of a response (`response_text`), with the phrase of the crate `http`;
-//!   the two fixed responses are the same function's bytes.
+//!   `law_of_the_end`: a head ends at the first empty line behind a line end.
+//! - `put_response` puts the bytes of a response (`response_text`), with the phrase of the crate
+//!   `http`; `put_head` and `put` put them where there is room, and then can't fail. The two fixed
+//!   responses are the same definition's bytes.
 #![tactic(auto)]
 
 mod fields;
@@ -17,5 +20,9 @@ mod next;
 mod region;
 mod respond;
 
-pub use next::{Given, Head, HeadFault, Next, law_of_the_cut, law_of_the_heads, next_request};
-pub use respond::{Method2, no_memory_response, not_built_response, response};
+pub use next::{
+    Given, Head, HeadFault, Next, law_of_the_cut, law_of_the_end, law_of_the_heads, next_request,
+};
+pub use respond::{
+    LONGEST_HEAD, Method2, no_memory_response, not_built_response, put, put_head, put_response,
+};

@@ -1,8 +1,8 @@
 //! A request off the front of the bytes.
-ghost use Rattle.std.specs.Prelude.{◌≡◌, ◌≤◌, Some, drop, length, take};
+ghost use Rattle.std.specs.Prelude.{◌≡◌, ◌≤◌, ℕ, IsSome, Some, drop, length, take};
 ghost use Rattle.shop_http.specs.Heads.{head_cut, head_end};
-ghost use Rattle.shop_http.specs.Laws.{HeadsAreRead, TheCutIsLawful};
-ghost use Rattle.shop_http.specs.Requests.{IsNext};
+ghost use Rattle.shop_http.specs.Laws.{HeadsAreRead, TheCutIsLawful, TheEndIsTheLeast};
+ghost use Rattle.shop_http.specs.Requests.{IsNext, IsSettledAt};
 ghost use Rattle.shop_http.specs.Words.{front_from, IsUnfinished};
 
 use crate::region::{Begun, head_end, read_region};
@@ -45,15 +45,19 @@ pub struct Head<'b> {
 
 /// What stands at the front of the bytes.
 #[derive(Clone, Copy)]
-pub enum Next<'b, F = HeadFault> {
+pub enum Next<'b, F = HeadFault, R = ()> {
     /// A whole request, which is `used` bytes long.
     Whole {
         head: Head<'b>,
         body: &'b [u8],
         used: usize,
+        /// What else was found of it.
+        found: R,
     },
-    /// No whole request yet, and more bytes may come.
-    More,
+    /// No whole request yet, and more bytes may come. There is nothing new to see before there are `least` bytes.
+    More {
+        least: usize,
+    },
     /// Nothing, and no more bytes come.
     Nothing,
     /// A piece of a request, and no more bytes come.
@@ -67,6 +71,9 @@ const LONGEST_HEAD: usize = 16_384;
 
 /// The request at the front of the bytes, where `ended` says that no more come. Takes no memory.
 ///
+/// `More` says the length of the whole request where the head stands there, so that a head is read twice at most: as soon as it
+/// stands there, and once all of the body does. Before that it asks for one byte more.
+///
 /// A request is a head (RFC 9112, sections 2 to 5) and the body that its `Content-Length` tells. `More`, `Nothing` and `Cut` come
 /// where there are fewer bytes than the head and the body take. `Fatal` comes with
 /// - `BadHead` where the head is longer than 16,384 bytes or has more than 64 fields, where it isn't a head of HTTP/1.0 or HTTP/1.1,
@@ -74,11 +81,12 @@ const LONGEST_HEAD: usize = 16_384;
 /// - `Chunked` where it has a `Transfer-Encoding`;
 /// - `TooLarge` where the body is longer than 1,048,576 bytes.
 pub fn next_request<'b>(bytes: &'b [u8], ended: bool) -> Next<'b>
-    ensures { IsNext head_cut bytes.now ended result }
+    ensures next { IsNext head_cut bytes.now ended result }
+    ensures read_twice { (least : ℕ) → result ≡ Next.More least → IsSome (head_end bytes.now) → IsSettledAt head_cut bytes.now least }
 {
     match head_end(front(bytes)) {
         Some(end) => with_head(bytes, end, ended),
-        None if bytes.len() < LONGEST_HEAD => unfinished(bytes, ended),
+        None if bytes.len() < LONGEST_HEAD => unfinished(bytes, bytes.len() + 1, ended),
         None => Next::Fatal(HeadFault::BadHead),
     }
 }
@@ -94,7 +102,8 @@ fn with_head<'b>(bytes: &'b [u8], end: usize, ended: bool) -> Next<'b>
     requires ends { head_end bytes.now ≡ Some end }
     requires within { end ≤ length bytes.now }
     requires fits { end ≤ 16384 }
-    ensures { IsNext head_cut bytes.now ended result }
+    ensures next { IsNext head_cut bytes.now ended result }
+    ensures settles { (least : ℕ) → result ≡ Next.More least → IsSettledAt head_cut bytes.now least }
 {
     match read_region(&bytes[..end]) {
         Ok(begun) => with_body(bytes, end, begun, ended),
@@ -103,25 +112,29 @@ fn with_head<'b>(bytes: &'b [u8], end: usize, ended: bool) -> Next<'b>
 }
 
 fn with_body<'b>(bytes: &'b [u8], end: usize, begun: Begun<'b>, ended: bool) -> Next<'b>
-    requires { end ≤ length bytes.now }
-    ensures { IsNext (λ _. front_from begun.entry end (drop end bytes.now)) bytes.now ended result }
+    requires within { end ≤ length bytes.now }
+    requires fits { end ≤ 16384 }
+    requires size { begun.size ≤ 1048576 }
+    ensures next { IsNext (λ b. front_from begun.entry end (drop end b)) bytes.now ended result }
+    ensures settles { (least : ℕ) → result ≡ Next.More least → IsSettledAt (λ b. front_from begun.entry end (drop end b)) bytes.now least }
 {
     let behind = &bytes[end..];
     if begun.size > behind.len() {
-        return unfinished(bytes, ended);
+        return unfinished(bytes, end + begun.size, ended);
     }
     Next::Whole {
         head: begun.head,
         body: &behind[..begun.size],
         used: end + begun.size,
+        found: (),
     }
 }
 
-fn unfinished<'b>(bytes: &'b [u8], ended: bool) -> Next<'b>
-    ensures { IsUnfinished bytes.now ended result }
+fn unfinished<'b>(bytes: &'b [u8], least: usize, ended: bool) -> Next<'b>
+    ensures { IsUnfinished bytes.now least ended result }
 {
     if !ended {
-        Next::More
+        Next::More { least }
     } else if bytes.is_empty() {
         Next::Nothing
     } else {
@@ -138,4 +151,9 @@ pub fn law_of_the_cut()
 /// What is read as a head is one of the grammar (RFC 9112, sections 2 to 5), and each head of the grammar is read.
 pub fn law_of_the_heads()
     ensures { HeadsAreRead }
+{}
+
+/// A head ends at the first empty line behind a line end: no lesser place is such an end.
+pub fn law_of_the_end()
+    ensures { TheEndIsTheLeast }
 {}

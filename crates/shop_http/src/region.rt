@@ -1,14 +1,14 @@
 //! The region of a head: where it ends, and what it asks for.
-ghost use Rattle.std.specs.Prelude.{◌≡◌, ◌≤◌, All, None, IfSome, codes, length, drop, map, take, ◌==◌, ◌||◌};
+ghost use Rattle.std.specs.Prelude.{◌≡◌, ◌≤◌, None, IfSome, length, ◌==◌, ◌||◌};
 ghost use Rattle.httparse.specs.Grammar.{RequestHead};
-ghost use Rattle.httparse.specs.Spans.{header_bytes, span_bytes, IsHeaderWithin, IsWithin};
+ghost use Rattle.httparse.specs.Spans.{span_bytes, IsWithin};
 ghost use Rattle.shop_http.specs.HeadReader.{head_of};
-ghost use Rattle.shop_http.specs.Heads.{asks_to_close, empty_line, head_end, judged, named};
+ghost use Rattle.shop_http.specs.Heads.{empty_line, head_end, judged};
 ghost use Rattle.shop_http.specs.Laws.{IsHeadOf};
 ghost use Rattle.shop_http.specs.Requests.{field_of};
 ghost use Rattle.shop_http.specs.Words.{IsFound, IsJudged};
 
-use crate::fields::{asks_to_close, body_size, lookup};
+use crate::fields::{Fields, body_size, look_up};
 use crate::next::{Head, HeadFault};
 use httparse::Status;
 use httparse::spans::{EMPTY_HEADER_SPAN, HeaderSpan, RequestSpans, parse_request};
@@ -61,10 +61,10 @@ pub fn read_region<'b>(region: &'b [u8]) -> Result<Begun<'b>, HeadFault>
     let Some(found) = find_head(region, &mut spans) else {
         return Err(HeadFault::BadHead);
     };
-    let fields = &spans[..found.headers];
-    let size = body_size(region, fields)?;
+    let fields = look_up(region, &spans[..found.headers]);
+    let size = body_size(&fields)?;
     Ok(Begun {
-        head: make_head(region, found, fields),
+        head: make_head(region, found, &fields),
         size,
     })
 }
@@ -80,33 +80,25 @@ fn find_head(region: &[u8], spans: &mut [HeaderSpan]) -> Option<RequestSpans>
     }
 }
 
-fn make_head<'b>(region: &'b [u8], found: RequestSpans, fields: &[HeaderSpan]) -> Head<'b>
+fn make_head<'b>(region: &'b [u8], found: RequestSpans, fields: &Fields<'b>) -> Head<'b>
     requires method_within { IsWithin (length region.now) found.method }
     requires path_within { IsWithin (length region.now) found.path }
-    requires fields_within { All (IsHeaderWithin (length region.now)) fields.now }
     ensures method { result.method.now ≡ span_bytes region.now found.method }
     ensures target { result.target.now ≡ span_bytes region.now found.path }
-    ensures closing { result.closing ≡ (found.version == 0 || asks_to_close (map (header_bytes region.now) fields.now)) }
-    ensures language { field_of result.language ≡ named (codes "x-language-id") (map (header_bytes region.now) fields.now) }
-    ensures version { field_of result.version ≡ named (codes "x-version-id") (map (header_bytes region.now) fields.now) }
-    ensures inheritance { field_of result.inheritance ≡ named (codes "x-inheritance") (map (header_bytes region.now) fields.now) }
-    ensures min_front { field_of result.min_front ≡ named (codes "x-min-front") (map (header_bytes region.now) fields.now) }
+    // HTTP/1.0 keeps no connection open (RFC 9112, section 9.3).
+    ensures closing { result.closing ≡ (found.version == 0 || fields.now.closing) }
+    ensures language { field_of result.language ≡ field_of fields.now.language }
+    ensures version { field_of result.version ≡ field_of fields.now.version }
+    ensures inheritance { field_of result.inheritance ≡ field_of fields.now.inheritance }
+    ensures min_front { field_of result.min_front ≡ field_of fields.now.min_front }
 {
     Head {
         method: found.method.of(region),
         target: found.path.of(region),
-        closing: is_closing(region, found.version, fields),
-        language: lookup(region, fields, "x-language-id"),
-        version: lookup(region, fields, "x-version-id"),
-        inheritance: lookup(region, fields, "x-inheritance"),
-        min_front: lookup(region, fields, "x-min-front"),
+        closing: found.version == 0 || fields.closing,
+        language: fields.language,
+        version: fields.version,
+        inheritance: fields.inheritance,
+        min_front: fields.min_front,
     }
-}
-
-/// HTTP/1.0 keeps no connection open (RFC 9112, section 9.3).
-fn is_closing(region: &[u8], minor: u8, fields: &[HeaderSpan]) -> bool
-    requires { All (IsHeaderWithin (length region.now)) fields.now }
-    ensures { result ≡ (minor == 0 || asks_to_close (map (header_bytes region.now) fields.now)) }
-{
-    minor == 0 || asks_to_close(region, fields)
 }

@@ -1,11 +1,11 @@
 //! Responses, as bytes.
-ghost use Rattle.std.specs.Prelude.{◌≡◌, ◌↔◌, ◌++◌, IfOk, IsSome, OnOk};
-ghost use Rattle.shop_http.specs.Responses.{allow_line, close_line, content_lines, IsNamed, no_memory_text, not_built_text, phrase_of, response_text, start_line};
+ghost use Rattle.std.specs.Prelude.{◌≡◌, ◌↔◌, ◌++◌, ◌+◌, ◌≤◌, IsSome, OnErr, OnOk, length};
+ghost use Rattle.std.specs.Vec.{vec_capacity, vec_len};
+ghost use Rattle.shop_http.specs.Responses.{allow_line, close_line, content_lines, head_text, IsNamed, no_memory_text, not_built_text, phrase_of, response_text, start_line};
 
 use http::StatusCode;
 use itoa::Buffer;
-use shop_defs::{List, NoMemory};
-use std::alloc::Global;
+use shop_defs::NoMemory;
 
 /// A method that a target can be asked with.
 #[derive(Clone, Copy)]
@@ -15,7 +15,7 @@ pub enum Method2 {
 }
 
 /// No head of a response is longer than that, in bytes.
-const LONGEST_HEAD: usize = 160;
+pub const LONGEST_HEAD: usize = 160;
 
 const NO_MEMORY: &[u8] =
     b"HTTP/1.1 507 Insufficient Storage\r\ncontent-type: application/json\r\ncontent-length: 21\r\n\r\n{\"error\":\"no_memory\"}";
@@ -26,62 +26,93 @@ const NO_MEMORY_CLOSING: &[u8] =
 const NOT_BUILT: &[u8] =
     b"HTTP/1.1 501 Not Implemented\r\ncontent-type: application/json\r\ncontent-length: 21\r\nconnection: close\r\n\r\n{\"error\":\"not_built\"}";
 
-/// The bytes of a response (RFC 9112, section 2.1) with a body of JSON.
+/// Puts a whole response (RFC 9112, section 2.1) with a body of JSON behind what is there.
 ///
 /// The status is one of 200, 400, 404, 405, 409, 413, 501, 503 and 507. `allow` is the method that the target can be asked with, and is
 /// given exactly where the status is 405. `closing` says that the connection is closed after the response. An error comes only
-/// where memory is wanting.
+/// where memory is wanting, and leaves what is there.
 #[tactic(auto, unfolding(crate::specs::Responses::response_text))]
-pub fn response(
-    alloc: Global,
+pub fn put_response(
+    out: &mut Vec<u8>,
     status: u16,
     body: &[u8],
     allow: Option<Method2>,
     closing: bool,
-) -> Result<List<u8>, NoMemory>
+) -> Result<(), NoMemory>
     requires named { IsNamed status }
     requires allowed { IsSome allow ↔ (status ≡ 405) }
-    ensures { IfOk result (λ out. out ≡ response_text status body.now allow closing) }
+    ensures ok { OnOk result (out.new.items ≡ out.old.items ++ response_text status body.now allow closing) }
+    ensures err { OnErr result (out.new.items ≡ out.old.items) }
 {
-    let mut out = Vec::with_capacity(alloc, LONGEST_HEAD + body.len())?;
-    put_start(&mut out, status)?;
-    put_content_fields(&mut out, body.len())?;
-    out.extend_from_slice(allow_line(allow))?;
-    out.extend_from_slice(close_line(closing))?;
-    out.extend_from_slice(b"\r\n")?;
-    out.extend_from_slice(body)?;
-    Ok(List::from_vec(out))
+    out.reserve(LONGEST_HEAD + body.len())?;
+    put_head(out, status, body.len(), allow, closing);
+    put(out, body);
+    Ok(())
+}
+
+/// Puts the head of a response to a body of so many bytes, where there is room for the longest one. It takes no memory.
+pub fn put_head(out: &mut Vec<u8>, status: u16, size: usize, allow: Option<Method2>, closing: bool)
+    requires named { IsNamed status }
+    requires allowed { IsSome allow ↔ (status ≡ 405) }
+    requires room { vec_len out.old + LONGEST_HEAD ≤ vec_capacity out.old }
+    ensures items { out.new.items ≡ out.old.items ++ head_text status size allow closing }
+    ensures len { vec_len out.new ≤ vec_len out.old + LONGEST_HEAD }
+    ensures room { vec_capacity out.old ≤ vec_capacity out.new }
+{
+    put_start(out, status);
+    put_content_fields(out, size);
+    put(out, allow_line(allow));
+    put(out, close_line(closing));
+    put(out, b"\r\n");
+}
+
+/// Puts bytes for which there is room. It takes no memory.
+pub fn put(out: &mut Vec<u8>, bytes: &[u8])
+    requires room { vec_len out.old + length bytes.now ≤ vec_capacity out.old }
+    ensures items { out.new.items ≡ out.old.items ++ bytes.now }
+    ensures len { vec_len out.new ≡ vec_len out.old + length bytes.now }
+    ensures room { vec_capacity out.old ≤ vec_capacity out.new }
+{
+    match out.extend_from_slice(bytes) {
+        Ok(()) => {}
+        Err(_) => unreachable!(),
+    }
 }
 
 #[tactic(auto, unfolding(crate::specs::Responses::start_line))]
-fn put_start(out: &mut Vec<u8>, status: u16) -> Result<(), NoMemory>
-    requires { IsNamed status }
-    ensures { OnOk result (out.new.items ≡ out.old.items ++ start_line status) }
+fn put_start(out: &mut Vec<u8>, status: u16)
+    requires named { IsNamed status }
+    requires room { vec_len out.old + 40 ≤ vec_capacity out.old }
+    ensures items { out.new.items ≡ out.old.items ++ start_line status }
+    ensures len { vec_len out.new ≤ vec_len out.old + 40 }
+    ensures room { vec_capacity out.old ≤ vec_capacity out.new }
 {
     let mut digits = Buffer::new();
-    out.extend_from_slice(b"HTTP/1.1 ")?;
-    out.extend_from_slice(digits.format(status).as_bytes())?;
-    out.extend_from_slice(b" ")?;
-    out.extend_from_slice(phrase(status).as_bytes())?;
-    out.extend_from_slice(b"\r\n")?;
-    Ok(())
+    put(out, b"HTTP/1.1 ");
+    put(out, digits.format(status).as_bytes());
+    put(out, b" ");
+    put(out, phrase(status).as_bytes());
+    put(out, b"\r\n");
 }
 
 #[tactic(auto, unfolding(crate::specs::Responses::content_lines))]
-fn put_content_fields(out: &mut Vec<u8>, size: usize) -> Result<(), NoMemory>
-    ensures { OnOk result (out.new.items ≡ out.old.items ++ content_lines size) }
+fn put_content_fields(out: &mut Vec<u8>, size: usize)
+    requires room { vec_len out.old + 72 ≤ vec_capacity out.old }
+    ensures items { out.new.items ≡ out.old.items ++ content_lines size }
+    ensures len { vec_len out.new ≤ vec_len out.old + 72 }
+    ensures room { vec_capacity out.old ≤ vec_capacity out.new }
 {
     let mut digits = Buffer::new();
-    out.extend_from_slice(b"content-type: application/json\r\ncontent-length: ")?;
-    out.extend_from_slice(digits.format(size).as_bytes())?;
-    out.extend_from_slice(b"\r\n")?;
-    Ok(())
+    put(out, b"content-type: application/json\r\ncontent-length: ");
+    put(out, digits.format(size).as_bytes());
+    put(out, b"\r\n");
 }
 
 /// The reason phrase of a status (RFC 9110, section 15).
 fn phrase(status: u16) -> &'static str
     requires { IsNamed status }
-    ensures { result.now ≡ phrase_of status }
+    ensures value { result.now ≡ phrase_of status }
+    ensures short { length result.now ≤ 20 }
 {
     match StatusCode::from_u16(status) {
         Ok(code) => code.canonical_reason().unwrap_or(""),
@@ -90,7 +121,8 @@ fn phrase(status: u16) -> &'static str
 }
 
 fn allow_line(allow: Option<Method2>) -> &'static [u8]
-    ensures { result.now ≡ allow_line allow }
+    ensures value { result.now ≡ allow_line allow }
+    ensures short { length result.now ≤ 20 }
 {
     match allow {
         None => b"",
@@ -100,7 +132,8 @@ fn allow_line(allow: Option<Method2>) -> &'static [u8]
 }
 
 fn close_line(closing: bool) -> &'static [u8]
-    ensures { result.now ≡ close_line closing }
+    ensures value { result.now ≡ close_line closing }
+    ensures short { length result.now ≤ 20 }
 {
     if closing {
         b"connection: close\r\n"

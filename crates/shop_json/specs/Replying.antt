@@ -1,5 +1,5 @@
 -- What replies say, as JSON values, and with which status (RFC 9110, section 15).
-use Rattle.std.specs.Prelude.{ℕ, List, [], ◌∷◌, map, codes, Option, Some, None}
+use Rattle.std.specs.Prelude.{ℕ, ℤ, List, [], ◌∷◌, map, codes, Option, Some, None}
 use Rattle.serde_json.specs.Data.{Data, string}
 use Rattle.serde_json.specs.Written.{compact_text}
 use Rattle.shop_core.specs.declared.answers.Reply.{Reply}
@@ -44,3 +44,7 @@ reply_status R.NoMemory = 507
 -- the body of a reply
 unfoldable pub reply_body : Reply → List ℕ
 reply_body reply = compact_text (reply_data reply)
+
+-- the body of the reply to a write that is accepted
+abbrev pub done_body : ℕ → ℤ → List ℕ
+done_body front value = reply_body (R.Done (record { front = front; value = value }))

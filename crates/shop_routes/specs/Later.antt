@@ -2,7 +2,7 @@
 use Rattle.std.specs.Prelude.{◌==◌, Bool, true, false, not, Result, Ok, Err}
 use Rattle.shop_requests.specs.declared.route.Route.{Route}
 use Rattle.shop_requests.specs.declared.route.Route.TheVariants as routes
-use Rattle.shop_routes.specs.declared.router.RouteFault.{RouteFault}
+use Rattle.shop_routes.specs.Routing.{Fault}
 
 -- what is answered so far: a batch for the live version, a row, and a list of rows
 abbrev pub is_later : Route → Bool
@@ -12,6 +12,6 @@ is_later (routes.RowList entity id second) = false
 is_later _ = true
 
 -- a request that breaks no rule asks for what isn't answered yet
-abbrev pub asks_later : Result Route RouteFault → Bool
+abbrev pub asks_later : Result Route Fault → Bool
 asks_later (Ok route) = is_later route
 asks_later (Err fault) = false

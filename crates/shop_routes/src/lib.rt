@@ -4,22 +4,24 @@
 //! # What is promised
 //!
 //! - `Routes` are the nineteen paths of the interface, in a router of the crate `matchit`.
-//! - `route` is what a request's line and headers ask for, or the first rule that they break, both
+//! - `look` is what a request's line and headers ask for, or the first rule that they break, both
 //!   ways: no route, another method, the first malformed part of the path, the first malformed
 //!   header. It is said over the pieces of the target between its slashes, in words that know
-//!   nothing of the router; and it takes memory only for a text that the answer holds.
+//!   nothing of the router. It is lent from the request and takes no memory; `route` makes the route
+//!   of it, and takes memory only for the name of an entity.
 //! - `law_of_the_first_part`: the malformed part that is named is the first that stands in the
 //!   target.
-//! - `asks_later` says of a request, without memory, whether it breaks none of these rules and asks
-//!   for what isn't answered yet.
+//! - `asks_later` says of what was looked up whether it breaks none of these rules and asks for what
+//!   isn't answered yet.
 #![tactic(auto)]
 
 mod endpoint;
 mod headers;
-mod later;
+mod looked;
 mod numerals;
 mod parts;
 mod router;
 mod table;
 
-pub use router::{RouteFault, Routes, law_of_the_first_part};
+pub use looked::{Asks, Looked};
+pub use router::{Routes, law_of_the_first_part};

@@ -1,8 +1,7 @@
 -- Counts of faults over several requests, and the moments that a clock tells.
 use Rattle.std.proofs.Common.{◌≡◌, ℕ, zero, suc, ℤ, ◌+◌, List, [], ◌∷◌, length, map, Option, Some, None, refl, ap, ◌∙◌, arith}
 use Rattle.shop_outside.specs.Clocks.{Ticks}
-use Rattle.shop_core.specs.declared.answers.Request.TheVariants as requests
-use Rattle.shop_server.specs.Answering.{Form, asks, turned_away, Way, worked_out, short, failed, Served, failures, failed_once, Counts, RoseBy, HaveMoments, ComeAfter, first_moments}
+use Rattle.shop_server.specs.Answering.{Way, worked_out, short, failed, Served, failures, failed_once, Counts, RoseBy, HaveMoments, ComeAfter, first_moments}
 use Rattle.shop_server.specs.Session.{InRange}
 
 pub rose_none : (a b : ℕ) → b ≡ a → RoseBy 0 a b
@@ -11,16 +10,13 @@ rose_none a b e = omega arith
 rose_more : (n m a b c : ℕ) → RoseBy n a b → RoseBy m b c → RoseBy (n + m) a c
 rose_more n m a b c p q = omega arith
 
-rose_once : (form : Form) (way : Way) (a b : ℕ) → Counts a b form way → RoseBy (failed_once way) a b
-rose_once form worked_out a b c = omega arith
-rose_once (asks (requests.Write command)) short a b c = omega arith
-rose_once (asks (requests.Row read)) short a b c = omega arith
-rose_once (asks (requests.RowList entity id second)) short a b c = omega arith
-rose_once (turned_away fault allow) short a b c = omega arith
-rose_once form failed a b c = c.1
+rose_once : (way : Way) (a b : ℕ) → Counts a b way → RoseBy (failed_once way) a b
+rose_once worked_out a b c = omega arith
+rose_once short a b c = omega arith
+rose_once failed a b c = c.1
 
-pub rose_by_one : (one : Served) (served : List Served) (a b c : ℕ) → Counts a b one.form one.way → RoseBy (failures served) b c → RoseBy (failures (one ∷ served)) a c
-rose_by_one one served a b c p q = rose_more (failed_once one.way) (failures served) a b c (rose_once one.form one.way a b p) q
+pub rose_by_one : (one : Served) (served : List Served) (a b c : ℕ) → Counts a b one.way → RoseBy (failures served) b c → RoseBy (failures (one ∷ served)) a c
+rose_by_one one served a b c p q = rose_more (failed_once one.way) (failures served) a b c (rose_once one.way a b p) q
 
 pub no_moments : (coming : Option (ℕ → ℤ)) → HaveMoments coming []
 no_moments None = tt

@@ -1,5 +1,5 @@
 -- What is written is a front of the output for the whole input.
-use Rattle.std.proofs.Common.{◌≡◌, ℕ, ℤ, pos, ◌+◌, List, [], ◌∷◌, ◌++◌, refl, sym, ap, ◌∙◌, subst, inl, inr, append_assoc, append-nil, Option, Some, None, arith, rules}
+use Rattle.std.proofs.Common.{◌≡◌, ℕ, ℤ, pos, ◌+◌, ◌≤◌, List, [], ◌∷◌, ◌++◌, refl, sym, ap, ◌∙◌, subst, inl, inr, append_assoc, append-nil, Option, Some, None, arith, rules}
 use Rattle.std.specs.Io.KnownBytes.{Consumes, Appends, IsAtEnd}
 use Rattle.shop_outside.specs.Clocks.{Ticks}
 use Rattle.shop_core.specs.History.{State}
@@ -11,11 +11,10 @@ use Rattle.shop_server.specs.Lawful.{the_cut}
 use Rattle.shop_server.specs.declared.session.Ended.{Ended}
 use Rattle.shop_server.specs.declared.session.Ended.TheVariants.{Closed, HeadRefused, Spent, Truncated, ReadFault, WriteFault, NoMemory}
 use Rattle.shop_server.specs.Session.{AtMoment, InRange, Session, Answers, IsFront, most_requests}
-use Rattle.shop_server.specs.Answering.{DeskView, stand_of, Gives, AnswersBy, Served, Form, form_of, worked_out, IsOf, AreServed, served_text, after_served}
+use Rattle.shop_server.specs.Answering.{DeskView, stand_of, Gives, AnswersBy, Served, Form, form_of, worked_out, IsOf, AreServed, RoseBy, failures, served_text, after_served}
 use Rattle.shop_server.proofs.Folds.{answers_fold}
 use Rattle.shop_server.specs.Run.{number_of, fatal_text, fatal_end, IsOutput, IsCutShort, HasWritten}
 use Rattle.shop_server.specs.Outcome.{IsSettled}
-use Rattle.shop_server.proofs.Progress.{answers_push}
 use Rattle.shop_server.proofs.Settled.{front_trans, requests_stay, requests_grow}
 
 -- ---- fronts of lists
@@ -71,12 +70,13 @@ answers_so desk form ask is = record {
   text = refl;
   left = refl;
   counts = refl;
+  untouched = tt;
   told = refl;
 }
 
 -- requests always have answers
-pub answers_exist : (old : DeskView) (asked : List Asked) → (out : List ℕ) × (new : DeskView) × Answers (AtMoment Gives) old asked out new
-answers_exist old [] = ([], old, (refl, refl))
+pub answers_exist : (old : DeskView) (asked : List Asked) → (out : List ℕ) × (new : DeskView) × Answers (AtMoment Gives) old asked out new × (new.answerer.faults ≡ old.answerer.faults)
+answers_exist old [] = ([], old, (refl, refl), refl)
 answers_exist old (ask ∷ asked) =
     let form : Form = form_of ask.request in
     let one : Served = worked old form ask in
@@ -84,7 +84,7 @@ answers_exist old (ask ∷ asked) =
     let response : List ℕ = served_text (stand_of old) one in
     let rest = answers_exist next asked in
     let here : AtMoment Gives old ask response next = (next_moment old.coming, moment_in_range old.coming, moment_ticks old.coming, (one, refl, answers_so old form ask refl)) in
-    (response ++ rest.0, rest.1, (next, response, rest.0, here, rest.2, refl))
+    (response ++ rest.0, rest.1, (next, response, rest.0, here, rest.2, refl), rest.3)
 
 -- ---- what is written
 
@@ -103,21 +103,30 @@ module _ (first last : DeskView) (all before : List ℕ) (left' written' : Optio
   abbrev cuts_of : List ℕ → Cuts Refusal
   cuts_of bytes = requests cut most_requests bytes
 
-  output_of : (cuts : Cuts Refusal) (asked : List Asked) (body output : List ℕ) (end : DeskView) → Answers (AtMoment Gives) first asked body end → asked ≡ cuts.asked
-      → output ≡ body ++ fatal_end cuts.ending → IsOutput (stand_of first) cuts output
-  output_of cuts asked body output end h e o =
-      let fold = answers_fold first end asked body h in
-      (fold.0, subst (λ l. AreServed (stand_of first) l fold.0) e fold.1.each, o ∙ ap (λ l. l ++ fatal_end cuts.ending) fold.1.text)
+  abbrev Wrote : ℕ → Type 0
+  Wrote number = HasWritten (stand_of first) first.coming first.answerer.faults last.answerer.faults all before written' number
+
+  output_of : (cuts : Cuts Refusal) (asked : List Asked) (body output : List ℕ) (end : DeskView) → Answers (AtMoment Gives) first asked body end
+      → end.answerer.faults ≡ last.answerer.faults → asked ≡ cuts.asked
+      → output ≡ body ++ fatal_end cuts.ending → IsOutput (stand_of first) first.coming first.answerer.faults last.answerer.faults cuts output
+  output_of cuts asked body output end h same e o =
+      let fold = answers_fold first end asked body h in (
+        fold.0,
+        subst (λ l. AreServed (stand_of first) l fold.0) e fold.1.each,
+        fold.1.moments,
+        subst (λ n. RoseBy (failures fold.0) first.answerer.faults n) same fold.1.counts,
+        o ∙ ap (λ l. l ++ fatal_end cuts.ending) fold.1.text,
+      )
 
   -- the whole output was written
   whole_output : (number : ℕ) (body out : List ℕ) (asked : List Asked) → Appends (Some before) written' out → Answers (AtMoment Gives) first asked body last
-      → asked ≡ (cuts_of all).asked → out ≡ body ++ fatal_end (cuts_of all).ending → HasWritten (stand_of first) all before written' number
+      → asked ≡ (cuts_of all).asked → out ≡ body ++ fatal_end (cuts_of all).ending → Wrote number
   whole_output number body out asked a h e o =
-      (out, out, output_of (cuts_of all) asked body out last h e o, told_more before written' out a, front_of_all out, inr refl)
+      (out, out, output_of (cuts_of all) asked body out last h refl e o, told_more before written' out a, front_of_all out, inr refl)
 
   -- a front of it was written
   front_output : (number : ℕ) (full out : List ℕ) (asked : List Asked) → Appends (Some before) written' out → Answers (AtMoment Gives) first asked full last
-      → IsFront asked (cuts_of all).asked → IsFront out full → IsCutShort number → HasWritten (stand_of first) all before written' number
+      → IsFront asked (cuts_of all).asked → IsFront out full → IsCutShort number → Wrote number
   front_output number full out asked a h front f short =
       let others = answers_exist last front.0 in
       let body : List ℕ = full ++ others.0 in
@@ -125,7 +134,7 @@ module _ (first last : DeskView) (all before : List ℕ) (left' written' : Optio
       subst (λ l. Answers (AtMoment Gives) first l body others.1) (sym front.1) (answers_join (AtMoment Gives) first last others.1 asked front.0 full others.0 h others.2) in
       let output : List ℕ = body ++ fatal_end (cuts_of all).ending in
       let more : IsFront full output = (others.0 ++ fatal_end (cuts_of all).ending, append_assoc full others.0 (fatal_end (cuts_of all).ending)) in
-      (output, out, output_of (cuts_of all) (cuts_of all).asked body output others.1 answers refl refl, told_more before written' out a, front_trans out full output f more, inl short)
+      (output, out, output_of (cuts_of all) (cuts_of all).asked body output others.1 answers others.3 refl refl, told_more before written' out a, front_trans out full output f more, inl short)
 
   -- the requests of all bytes are those of the bytes read, where the list has come to an end
   same_cuts : (ended : Ended) (s : Ran ended) (e : Ending Refusal) → (cuts_of s.got).ending ≡ e → IsSettled e → cuts_of all ≡ cuts_of s.got
@@ -144,13 +153,13 @@ module _ (first last : DeskView) (all before : List ℕ) (left' written' : Optio
 
   -- everything was answered and nothing more is due
   all_answered : (ended : Ended) (s : Ran ended) (number : ℕ) (e : Ending Refusal) → fatal_end e ≡ [] → s.asked ≡ (cuts_of s.got).asked → Answers (AtMoment Gives) first s.asked s.out last
-      → (cuts_of s.got).ending ≡ e → cuts_of all ≡ cuts_of s.got → HasWritten (stand_of first) all before written' number
+      → (cuts_of s.got).ending ≡ e → cuts_of all ≡ cuts_of s.got → Wrote number
   all_answered ended s number e none h a is same =
       whole_output number s.out s.out s.asked s.wrote a (h ∙ ap (λ c. c.asked) (sym same))
       (sym (ap (λ l. s.out ++ l) (ap (λ c. fatal_end c.ending) same ∙ ap fatal_end is ∙ none) ∙ append-nil s.out))
 
-  pub written_by : (ended : Ended) → Ran ended → HasWritten (stand_of first) all before written' (number_of ended)
-  written_by Closed s = elim s.how.2 as (λ _. HasWritten (stand_of first) all before written' 0) [
+  pub written_by : (ended : Ended) → Ran ended → Wrote (number_of ended)
+  written_by Closed s = elim s.how.2 as (λ _. Wrote 0) [
     | inl c ↦ all_answered Closed s 0 closing refl s.how.0 s.how.1 c (same_cuts Closed s closing c tt)
     | inr o ↦ all_answered Closed s 0 (open_at []) refl s.how.0 s.how.1 o.0 (same_at_end Closed s o.1)
   ]
@@ -162,25 +171,17 @@ module _ (first last : DeskView) (all before : List ℕ) (left' written' : Optio
   written_by Truncated s = all_answered Truncated s 6 (open_at s.how.2.0) refl s.how.0 s.how.1 s.how.2.2 (same_at_end Truncated s s.how.3)
   written_by ReadFault s =
       front_output 3 s.out s.out s.asked s.wrote s.how.1 (subst (λ l. IsFront l (cuts_of all).asked) (sym s.how.0) (read_front ReadFault s)) (front_of_all s.out) (inl refl)
-  written_by WriteFault s = elim s.how.5 as (λ _. HasWritten (stand_of first) all before written' 4) [
+  written_by WriteFault s = elim s.how.2 as (λ _. Wrote 4) [
     | inl h ↦
-        (let full : List ℕ = s.how.0 ++ s.how.2 in
-        let answers : Answers (AtMoment Gives) first s.asked full last =
-        subst (λ l. Answers (AtMoment Gives) first l full last) (sym h.3) (answers_push (AtMoment Gives) first h.2 last h.0 h.1 s.how.0 s.how.2 h.5 h.6) in
-        let begun : IsFront s.out full =
-        (s.how.4.0, ap (λ l. s.how.0 ++ l) s.how.4.1 ∙ sym (append_assoc s.how.0 s.how.1 s.how.4.0) ∙ ap (λ l. l ++ s.how.4.0) (sym s.how.3)) in
-        front_output 4 full s.out s.asked s.wrote answers (front_trans s.asked (cuts_of s.got).asked (cuts_of all).asked h.4 (read_front WriteFault s)) begun (inr (inl refl)))
+        front_output 4 s.how.0 s.out s.asked s.wrote h.1 (front_trans s.asked (cuts_of s.got).asked (cuts_of all).asked h.0 (read_front WriteFault s)) s.how.1 (inr (inl refl))
     | inr h ↦
-        (let same = same_cuts WriteFault s (refused h.0) h.1 tt in
-        let output : List ℕ = s.how.0 ++ s.how.2 in
-        let begun : IsFront s.out output =
-        (s.how.4.0, ap (λ l. s.how.0 ++ l) s.how.4.1 ∙ sym (append_assoc s.how.0 s.how.1 s.how.4.0) ∙ ap (λ l. l ++ s.how.4.0) (sym s.how.3)) in (
-          output,
+        (let same = same_cuts WriteFault s (refused h.0) h.2 tt in (
+          s.how.0,
           s.out,
-          output_of (cuts_of all) s.asked s.how.0 output last h.3 (h.2 ∙ ap (λ c. c.asked) (sym same))
-              (ap (λ l. s.how.0 ++ l) (h.4 ∙ ap fatal_end (sym (ap (λ c. c.ending) same ∙ h.1)))),
+          output_of (cuts_of all) s.asked h.1 s.how.0 last h.4 refl (h.3 ∙ ap (λ c. c.asked) (sym same))
+              (h.5 ∙ ap (λ e. h.1 ++ fatal_end e) (sym (ap (λ c. c.ending) same ∙ h.2))),
           told_more before written' s.out s.wrote,
-          begun,
+          s.how.1,
           inl (inr (inl refl)),
         ))
   ]
@@ -188,12 +189,13 @@ module _ (first last : DeskView) (all before : List ℕ) (left' written' : Optio
       front_output 9 s.out s.out s.asked s.wrote s.how.1 (subst (λ l. IsFront l (cuts_of all).asked) (sym s.how.0) (read_front NoMemory s)) (front_of_all s.out) (inr (inr (inr refl)))
 
 -- where nothing was written, that is a front of the output
-pub unwritten : (state : State) (all before : List ℕ) (written : Option (List ℕ)) (number : ℕ)
-    → written ≡ Some before → IsCutShort number → HasWritten state all before written number
-unwritten state all before written number e short =
-    let desk : DeskView = record { answerer = record { rows = state.rows; number = state.number; content = None; faults = 0 }; coming = None } in
+pub unwritten : (state : State) (coming : Option (ℕ → ℤ)) (faults now : ℕ) → faults ≤ now → (all before : List ℕ) (written : Option (List ℕ)) (number : ℕ)
+    → written ≡ Some before → IsCutShort number → HasWritten state coming faults now all before written number
+unwritten state coming faults now rises all before written number e short =
+    let desk : DeskView = record { answerer = record { rows = state.rows; number = state.number; content = None; faults = faults }; coming = coming } in
     let cuts : Cuts Refusal = requests cut most_requests all in
     let answers = answers_exist desk cuts.asked in
     let output : List ℕ = answers.0 ++ fatal_end cuts.ending in
     let fold = answers_fold desk answers.1 cuts.asked answers.0 answers.2 in
-    (output, [], (fold.0, fold.1.each, ap (λ l. l ++ fatal_end cuts.ending) fold.1.text), e ∙ ap Some (sym (append-nil before)), (output, refl), inl short)
+    let counts : RoseBy (failures fold.0) faults now = omega (arith, fold.1.counts, answers.3, rises) in
+    (output, [], (fold.0, fold.1.each, fold.1.moments, counts, ap (λ l. l ++ fatal_end cuts.ending) fold.1.text), e ∙ ap Some (sym (append-nil before)), (output, refl), inl short)

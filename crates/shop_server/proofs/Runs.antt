@@ -1,6 +1,6 @@
 -- What a run over a keeper that tells comes to.
 use Rattle.std.proofs.lemmas.List.{length-map}
-use Rattle.std.proofs.Common.{◌≡◌, ℕ, ◌⊎◌, List, [], ◌++◌, refl, sym, ap, ◌∙◌, subst, inl, inr, append-nil, append_assoc, length, Option, Some, None}
+use Rattle.std.proofs.Common.{◌≡◌, ℕ, ◌⊎◌, List, [], refl, sym, ap, ◌∙◌, subst, inl, inr, append-nil, ◌≤◌, arith, length, Option, Some, None}
 use Rattle.shop_defs.specs.declared.row.Row.{Row}
 use Rattle.shop_outside.specs.declared.keeper.Kept.{Kept}
 use Rattle.shop_defs.specs.declared.key.Key.{Key}
@@ -30,7 +30,6 @@ use Rattle.shop_server.specs.Run.{Outside, number_of, number_at, number_unopened
 use Rattle.shop_server.specs.Session.{Answers, AtMoment, Session, most_requests}
 use Rattle.shop_server.proofs.Outputs.{written_by, unwritten}
 use Rattle.shop_server.proofs.Settled.{outcome}
-use Rattle.shop_server.proofs.Progress.{answers_push}
 use Rattle.shop_server.proofs.Folds.{answers_fold}
 
 -- ---- what was loaded
@@ -98,10 +97,15 @@ run_damaged before now number held damage (inr h) e d = absurd (never_opened bef
 
 -- ---- what a run writes
 
+unopened_rises : (content : Option Kept) (before now : ℕ) (fault : OpenFault) → HasOpenCause content before now fault → before ≤ now
+unopened_rises content before now opening.StoreFault c = c.0
+unopened_rises content before now opening.NoMemory c = omega arith
+unopened_rises content before now (opening.Damaged key rule) c = omega (arith, c.0)
+
 pub run_written : (before now : Outside) (number : ℕ) (all kept : List ℕ) (start : State) → HasRun before now number → before.left ≡ Some all → before.written ≡ Some kept → Keeps before.content start
-    → HasWritten start all kept now.written number
+    → HasWritten start before.coming before.faults now.faults all kept now.written number
 run_written before now number all kept start (inl h) told begun k =
-    unwritten start all kept now.written number (h.written ∙ begun)
+    unwritten start before.coming before.faults now.faults (unopened_rises before.content before.faults now.faults h.fault h.cause) all kept now.written number (h.written ∙ begun)
     (subst IsCutShort (sym h.status) (unopened_short before.content before.faults now.faults start h.fault h.cause k))
 run_written before now number all kept start (inr h) told begun k =
     let c = h.connected in
@@ -109,9 +113,13 @@ run_written before now number all kept start (inr h) told begun k =
     subst (λ w. Session (AtMoment Gives) fatal_text cut most_requests c.first c.last (Some all) now.left w now.written h.ended) begun
     (subst (λ l. Session (AtMoment Gives) fatal_text cut most_requests c.first c.last l now.left before.written now.written h.ended) told c.session) in
     let state : stand_of c.first ≡ start = ap state_of c.begins ∙ opened_state before.content before.faults h.shop start h.opened h.is_shop k in
-    subst (λ s. HasWritten s all kept now.written number) state
-    (subst (λ n. HasWritten (stand_of c.first) all kept now.written n) (sym h.status)
-    (written_by c.first c.last all kept now.left now.written h.ended session))
+    let faults : c.first.answerer.faults ≡ before.faults = ap (λ (v : ShopView). v.faults) c.begins ∙ h.opened.same_faults in
+    subst (λ s. HasWritten s before.coming before.faults now.faults all kept now.written number) state
+    (subst (λ m. HasWritten (stand_of c.first) m before.faults now.faults all kept now.written number) c.told
+    (subst (λ f. HasWritten (stand_of c.first) c.first.coming f now.faults all kept now.written number) faults
+    (subst (λ f. HasWritten (stand_of c.first) c.first.coming c.first.answerer.faults f all kept now.written number) (sym c.faults)
+    (subst (λ n. HasWritten (stand_of c.first) c.first.coming c.first.answerer.faults c.last.answerer.faults all kept now.written n) (sym h.status)
+    (written_by c.first c.last all kept now.left now.written h.ended session)))))
 
 -- ---- the status of a check
 
@@ -172,30 +180,23 @@ module _ (old new : DeskView) (left left' written written' : Option (List ℕ)) 
           all = inr s.how.5;
         };
       }
-  has_text WriteFault s = elim s.how.5 as (λ _. HasText WriteFault s) [
-    | inl h ↦
-        (let text : List ℕ = s.how.0 ++ s.how.2 in
-        record {
-          text = text;
-          answers = subst (λ l. Answers (AtMoment Gives) old l text new) (sym h.3) (answers_push (AtMoment Gives) old h.2 new h.0 h.1 s.how.0 s.how.2 h.5 h.6);
-          whole = record { tail = []; fatal = inl refl; front = (s.how.4.0, append-nil text ∙ begun s); all = inl refl };
-        })
-    | inr h ↦
-        (let tail : List ℕ = fatal_text h.0 in
-        record {
-          text = s.how.0;
-          answers = h.3;
-          whole = record {
-            tail = tail;
-            fatal = inr (h.0, h.1, refl);
-            front = (s.how.4.0, ap (λ l. s.how.0 ++ l) (sym h.4) ∙ begun s);
-            all = inl refl;
-          };
-        })
+  has_text WriteFault s = elim s.how.2 as (λ _. HasText WriteFault s) [
+    | inl h ↦ record {
+      text = s.how.0;
+      answers = h.1;
+      whole = record { tail = []; fatal = inl refl; front = (s.how.1.0, append-nil s.how.0 ∙ s.how.1.1); all = inl refl };
+    }
+    | inr h ↦ record {
+      text = h.1;
+      answers = h.4;
+      whole = record {
+        tail = fatal_text h.0;
+        fatal = inr (h.0, h.2, refl);
+        front = (s.how.1.0, sym h.5 ∙ s.how.1.1);
+        all = inl refl;
+      };
+    }
   ]
-    where
-      begun : (s : Ran WriteFault) → s.how.0 ++ s.how.2 ≡ s.out ++ s.how.4.0
-      begun s = ap (λ l. s.how.0 ++ l) s.how.4.1 ∙ sym (append_assoc s.how.0 s.how.1 s.how.4.0) ∙ ap (λ l. l ++ s.how.4.0) (sym s.how.3)
 
 -- a session over a shop, as what is seen of all that was handed in
 pub connected_of : (shop last : ShopView) (before now : Outside) (ended : Ended)

@@ -21,9 +21,7 @@ use Rattle.shop_http.specs.Requests.{Request, Asked}
 use Rattle.shop_http.specs.Responses.{response_text, no_memory_text}
 use Rattle.shop_json.specs.Asking.{request_in}
 use Rattle.shop_json.specs.Replying.{reply_body, reply_status}
-use Rattle.shop_routes.specs.declared.router.RouteFault.{RouteFault}
-use Rattle.shop_routes.specs.declared.router.RouteFault.TheVariants as faults
-use Rattle.shop_routes.specs.Routing.{routed}
+use Rattle.shop_routes.specs.Routing.{Fault, no_route, wrong_method, bad_path, bad_header, routed}
 use Rattle.body_json.specs.declared.fault.BodyFault.{BodyFault}
 use Rattle.body_json.specs.declared.fault.BodyFault.TheVariants as bodies
 use Rattle.shop_server.specs.declared.turned.TurnedAway.{TurnedAway}
@@ -37,24 +35,23 @@ pub data Form : Type 0 where
   asks : shop.Request → Form
   turned_away : LineFault → Option Method2 → Form
 
--- why a request has no route; want of memory is no rule
-abbrev pub fault_of : RouteFault → LineFault
-fault_of faults.NoRoute = lines.NoRoute
-fault_of (faults.WrongMethod allow) = lines.WrongMethod
-fault_of (faults.BadPath part) = lines.BadPath part
-fault_of (faults.BadHeader name) = lines.BadHeader name
-fault_of faults.NoMemory = lines.NoRoute
+-- why a request has no route
+abbrev pub fault_of : Fault → LineFault
+fault_of no_route = lines.NoRoute
+fault_of (wrong_method allow) = lines.WrongMethod
+fault_of (bad_path part) = lines.BadPath part
+fault_of (bad_header name) = lines.BadHeader name
 
 -- the method that the path takes, where another was used
-abbrev pub allow_of : RouteFault → Option Method2
-allow_of (faults.WrongMethod allow) = Some allow
+abbrev pub allow_of : Fault → Option Method2
+allow_of (wrong_method allow) = Some allow
 allow_of fault = None
 
 abbrev pub by_request : Result shop.Request LineFault → Form
 by_request (Ok request) = asks request
 by_request (Err fault) = turned_away fault None
 
-abbrev pub by_route : List ℕ → Result Route RouteFault → Form
+abbrev pub by_route : List ℕ → Result Route Fault → Form
 by_route body (Ok route) = by_request (request_in route body)
 by_route body (Err fault) = turned_away (fault_of fault) (allow_of fault)
 
@@ -160,12 +157,16 @@ DeskView = Timed ShopView
 abbrev pub stand_of : DeskView → State
 stand_of desk = state_of desk.answerer
 
--- the keeper's count of faults after a request: where memory ran out for the response to a write, the keeper may have failed before
-abbrev pub Counts : ℕ → ℕ → Form → Way → Type 0
-Counts before now form worked_out = now ≡ before
-Counts before now (asks (requests.Write command)) short = before ≤ now
-Counts before now form short = now ≡ before
-Counts before now form failed = (before ≤ now) × Rose before now
+-- the keeper's count of faults after a request: it rises only where the keeper failed
+abbrev pub Counts : ℕ → ℕ → Way → Type 0
+Counts before now worked_out = now ≡ before
+Counts before now short = now ≡ before
+Counts before now failed = (before ≤ now) × Rose before now
+
+-- where memory ran out, all is as before: the rows, their number, what the keeper holds, and its count of faults
+abbrev pub IsUntouched : Way → ShopView → ShopView → Type 0
+IsUntouched short old new = new ≡ old
+IsUntouched way old new = Unit {0}
 
 -- A request was answered by these bytes so, and left that.
 pub record AnswersBy (one : Served) (old : ShopView) (ask : Asked) (out : List ℕ) (new : ShopView) : Type 0 where
@@ -174,7 +175,8 @@ pub record AnswersBy (one : Served) (old : ShopView) (ask : Asked) (out : List �
   pub may : MayBe (state_of old) one
   pub text : out ≡ served_text (state_of old) one
   pub left : state_of new ≡ after_served (state_of old) one
-  pub counts : Counts old.faults new.faults one.form one.way
+  pub counts : Counts old.faults new.faults one.way
+  pub untouched : IsUntouched one.way old new
   pub told : is_some new.content ≡ is_some old.content  -- a keeper that tells goes on to tell
 
 abbrev pub Gives : ShopView → Asked → ℤ → List ℕ → ShopView → Type 0
@@ -254,23 +256,13 @@ pub record ServesBy (way : Way) (old : ShopView) (form : Form) (moment : ℤ) (l
   pub may : MayComeBy way (state_of old) form moment
   pub text : out ≡ text_by way (state_of old) form moment last
   pub left : state_of new ≡ left_by way (state_of old) form moment
-  pub counts : Counts old.faults new.faults form way
-  pub told : is_some new.content ≡ is_some old.content
-
--- where memory ran out, nothing is changed but the count of faults
-pub record IsLeft (old new : ShopView) : Type 0 where
-  pub state : state_of new ≡ state_of old
-  pub faults : old.faults ≤ new.faults
+  pub counts : Counts old.faults new.faults way
+  pub untouched : IsUntouched way old new
   pub told : is_some new.content ≡ is_some old.content
 
 -- the method that is allowed is given exactly where the status of the reply is 405
 abbrev pub Allows : Reply → Option Method2 → Type 0
 Allows reply allow = IsSome allow ↔ (reply_status reply ≡ 405)
-
--- why a request that has no route is turned away
-abbrev pub turned_by_route : RouteFault → TurnedAway
-turned_by_route faults.NoMemory = turned.NoMemory
-turned_by_route fault = turned.Line (fault_of fault) (allow_of fault)
 
 -- why a request with another body is turned away
 abbrev pub turned_by_body : BodyFault → TurnedAway

@@ -13,7 +13,7 @@ use Rattle.shop_core.specs.declared.answers.Reply.TheVariants as replied
 use Rattle.shop_server.specs.declared.refusal.Refusal.{Refusal}
 use Rattle.shop_server.specs.declared.session.Ended.{Ended}
 use Rattle.shop_server.specs.declared.session.Ended.TheVariants.{Closed, HeadRefused, Spent, Truncated, ReadFault, WriteFault, NoMemory}
-use Rattle.shop_server.specs.Answering.{reply_text, DeskView, Gives, Served, HaveServed, AreServed, responses}
+use Rattle.shop_server.specs.Answering.{reply_text, DeskView, Gives, Served, HaveMoments, HaveServed, AreServed, RoseBy, failures, responses}
 use Rattle.shop_server.specs.Cutting.{cut, line_of}
 use Rattle.shop_server.specs.Outcome.{ended_of}
 use Rattle.shop_server.specs.Session.{AtMoment, Session, IsFront, most_requests}
@@ -122,14 +122,17 @@ fatal_end closing = []
 fatal_end spent = []
 
 -- The whole output for a list of requests: the responses, one after the other, from those rows on, and the fatal reply where it
--- is due.
-abbrev pub IsOutput : State → Cuts Refusal → List ℕ → Type 0
-IsOutput state cuts output = (served : List Served) × AreServed state cuts.asked served × (output ≡ responses state served ++ fatal_end cuts.ending)
+-- is due. The requests have the moments that the clock tells, one each in turn, and there are at most as many 503 as the keeper's
+-- count rose by.
+abbrev pub IsOutput : State → Option (ℕ → ℤ) → ℕ → ℕ → Cuts Refusal → List ℕ → Type 0
+IsOutput state coming faults faults' cuts output =
+    (served : List Served) × AreServed state cuts.asked served × HaveMoments coming served × RoseBy (failures served) faults faults'
+    × (output ≡ responses state served ++ fatal_end cuts.ending)
 
 -- Behind what was written before stands a front of the output for the whole input, and at any status but 3, 4, 5 and 9 all of it.
-abbrev pub HasWritten : State → List ℕ → List ℕ → Option (List ℕ) → ℕ → Type 0
-HasWritten state all before written number =
-    (output : List ℕ) × (out : List ℕ) × IsOutput state (requests cut most_requests all) output × (written ≡ Some (before ++ out)) × IsFront out output
+abbrev pub HasWritten : State → Option (ℕ → ℤ) → ℕ → ℕ → List ℕ → List ℕ → Option (List ℕ) → ℕ → Type 0
+HasWritten state coming faults faults' all before written number =
+    (output : List ℕ) × (out : List ℕ) × IsOutput state coming faults faults' (requests cut most_requests all) output × (written ≡ Some (before ++ out)) × IsFront out output
     × (IsCutShort number ⊎ (out ≡ output))
 
 -- ---- check

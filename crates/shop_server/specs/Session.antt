@@ -59,12 +59,12 @@ HasEnded gives fatal all old new asked out left Truncated =
 -- all were answered, and more bytes were wanted
 HasEnded gives fatal all old new asked out left ReadFault =
     (asked ≡ all.asked) × Answers gives old asked out new × ((rest : List ℕ) × (all.ending ≡ open_at rest))
--- Behind the answers written, a front of one reply more: of the response to the request after those that were answered, or of
--- the fatal reply behind all of them. The request whose response was cut counts as answered.
+-- A front of what was due: of the answers to the requests that were answered, which may not be all of them, or of all answers
+-- and the fatal reply behind them.
 HasEnded {F} {A} gives fatal all old new asked out left WriteFault =
-    (body piece whole : List ℕ) × (out ≡ body ++ piece) × IsFront piece whole
-    × (((done : List Asked) × (ask : Asked) × (mid : A) × (asked ≡ done ++ ask ∷ []) × IsFront asked all.asked × Answers gives old done body mid × gives mid ask whole new)
-    ⊎ ((f : F) × (all.ending ≡ refused f) × (asked ≡ all.asked) × Answers gives old asked body new × (whole ≡ fatal f)))
+    (due : List ℕ) × IsFront out due
+    × ((IsFront asked all.asked × Answers gives old asked due new)
+    ⊎ ((f : F) × (body : List ℕ) × (all.ending ≡ refused f) × (asked ≡ all.asked) × Answers gives old asked body new × (due ≡ body ++ fatal f)))
 -- all were answered, and more bytes were wanted
 HasEnded gives fatal all old new asked out left NoMemory =
     (asked ≡ all.asked) × Answers gives old asked out new × ((rest : List ℕ) × (all.ending ≡ open_at rest))

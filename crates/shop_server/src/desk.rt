@@ -1,37 +1,38 @@
 //! A shop that answers the requests of a connection.
-ghost use Rattle.std.specs.Prelude.{◌≡◌, ℕ, ℤ, List, IfOk, OnErr, None, Err};
-ghost use Rattle.shop_defs.specs.declared.row.Row.{Row};
+ghost use Rattle.std.specs.Prelude.{◌≡◌, ◌++◌, ℕ, ℤ, List, IfOk, OnOk, OnErr, None, Err, false};
 ghost use Rattle.shop_outside.specs.Clocks.{IsMoment};
 ghost use Rattle.shop_core.specs.declared.answers.Reply.TheVariants as replies;
 ghost use Rattle.shop_core.specs.declared.answers.Request.TheVariants as requests;
 ghost use Rattle.shop_core.specs.Requests.{IsBuiltRequest, answered, listing, reading, with_bare};
 ghost use Rattle.shop_core.specs.Shops.{IsShop};
-ghost use Rattle.shop_core.specs.Steps.{IsBuilt, accepted, step};
-ghost use Rattle.shop_http.specs.Requests.{request_of};
-ghost use Rattle.shop_http.specs.Responses.{no_memory_text, response_text};
-ghost use Rattle.shop_server.specs.Answering.{Allows, FewAreAccepted, Gives, IsForm, IsLeft, RepliesAreAFold, ServesBy, Way, asks, form_of, reply_text, short, shown};
+ghost use Rattle.shop_core.specs.Steps.{IsBuilt};
+ghost use Rattle.shop_json.specs.Asking as json;
+ghost use Rattle.shop_routes.specs.Later.{asks_later, is_later};
+ghost use Rattle.shop_routes.specs.Routing.{meant, route_of};
+ghost use Rattle.shop_server.specs.Answering.{Allows, FewAreAccepted, Gives, IsForm, RepliesAreAFold, ServesBy, Way, asks, by_request, by_route, reply_text, shown};
 ghost use Rattle.shop_server.specs.Cutting.{IsServed};
 
 use crate::answerer::Answerer;
 use crate::turned::TurnedAway;
-use shop_core::{AskFault, CommitFault, Done, Reply, Request, ShopState};
-use shop_defs::{Broken, List, NoMemory, Refused};
-use shop_http::{Head, Method2, response};
-use shop_json::{read_body, reply_text, seen_list_text, seen_row_text};
+use shop_core::{AskFault, CommitFault, Reply, Request, ShopState};
+use shop_defs::{Broken, NoMemory, Refused};
+use shop_http::{Head, Method2, put_response};
+use shop_json::{
+    put_done, put_store_failed, read_body, reply_text, reserve_done, seen_list_text, seen_row_text,
+};
 use shop_outside::{Keeper, Moment};
-use shop_requests::{Command, RowRead};
-use shop_routes::Routes;
+use shop_requests::{Command, LineFault, RowRead};
+use shop_routes::{Asks, Looked};
 use std::alloc::Global;
 use std::marker::Model;
 
-/// A shop, and the paths of its interface. Contracts see the shop.
+/// A shop that answers requests. Contracts see the shop.
 #[derive(Drop)]
-pub(crate) struct Desk<'r, P: Keeper + Drop> {
+pub(crate) struct Desk<P: Keeper + Drop> {
     shop: ShopState<P>,
-    routes: &'r Routes,
 }
 
-impl<'r, P: Keeper + Drop> Model for Desk<'r, P> {
+impl<P: Keeper + Drop> Model for Desk<P> {
     ghost use Rattle.shop_core.specs.Shops.{ShopView, IsShop};
 
     ghost Value = { ShopView };
@@ -39,105 +40,111 @@ impl<'r, P: Keeper + Drop> Model for Desk<'r, P> {
     ghost view = { λ d. d.shop };
 }
 
-impl<'r, P: Keeper + Drop> Desk<'r, P> {
-    /// The shop, with the paths of its interface.
-    pub(crate) fn new(shop: ShopState<P>, routes: &'r Routes) -> Desk<'r, P>
+impl<P: Keeper + Drop> Desk<P> {
+    /// A desk over a shop.
+    pub(crate) fn new(shop: ShopState<P>) -> Desk<P>
         ensures { result ≡ shop }
     {
-        Desk { shop, routes }
+        Desk { shop }
     }
 
     /// The keeper of the shop.
     pub(crate) fn close(self) -> P
-        ensures content { P.content result ≡ self.entry.content }
-        ensures faults { P.keep_faults result ≡ self.entry.faults }
-        ensures shop { IsShop self.entry }
+        ensures content { P.content result ≡ self.content }
+        ensures faults { P.keep_faults result ≡ self.faults }
+        ensures shop { IsShop self }
     {
-        let Desk { shop, routes: _ } = self;
+        let Desk { shop } = self;
         shop.close()
     }
 }
 
-/// What a request asks of a shop.
-fn request_in(
-    alloc: Global,
-    routes: &Routes,
-    head: &Head<'_>,
-    body: &[u8],
-) -> Result<Request, TurnedAway>
-    requires served { IsServed (request_of head.now body.now) }
-    ensures form { IsForm (form_of (request_of head.now body.now)) result }
+/// What a request asks of a shop of which this was looked up.
+fn request_in(alloc: Global, looked: &Looked<'_>, body: &[u8]) -> Result<Request, TurnedAway>
+    requires served { asks_later (meant looked.now) ≡ false }
+    ensures form { IsForm (by_route body.now (meant looked.now)) result }
     ensures built { IfOk result IsBuiltRequest }
 {
-    let route = routes.route(head)?;
-    Ok(read_body(alloc, &route, body)?)
+    match looked {
+        Looked::Asks(asks) => asked_in(alloc, asks, body),
+        Looked::NoRoute => Err(TurnedAway::line(LineFault::NoRoute)),
+        Looked::WrongMethod { allow } => Err(TurnedAway::Line {
+            fault: LineFault::WrongMethod,
+            allow: Some(*allow),
+        }),
+        Looked::BadPath { part } => Err(TurnedAway::bad_path(alloc, part)),
+        Looked::BadHeader { name } => Err(TurnedAway::bad_header(alloc, name)),
+    }
 }
 
-/// The response with a reply.
+/// The same where nothing but the body may be wrong.
+fn asked_in(alloc: Global, asks: &Asks<'_>, body: &[u8]) -> Result<Request, TurnedAway>
+    requires served { is_later (route_of asks.now) ≡ false }
+    ensures form { IsForm (by_request (json.request_in (route_of asks.now) body.now)) result }
+    ensures built { IfOk result IsBuiltRequest }
+{
+    match asks.route(alloc) {
+        Ok(route) => Ok(read_body(alloc, &route, body)?),
+        Err(_) => Err(TurnedAway::NoMemory),
+    }
+}
+
+/// Puts the response with a reply behind what is in `out`.
 fn respond(
     alloc: Global,
     reply: Reply,
     allow: Option<Method2>,
     last: bool,
-) -> Result<List<u8>, NoMemory>
+    out: &mut Vec<u8>,
+) -> Result<(), NoMemory>
     requires { Allows reply allow }
-    ensures { IfOk result (λ out. out ≡ reply_text reply allow last) }
+    ensures ok { OnOk result (out.new.items ≡ out.old.items ++ reply_text reply allow last) }
+    ensures err { OnErr result (out.new.items ≡ out.old.items) }
 {
     let (status, body) = reply_text(alloc, &reply)?;
-    response(alloc, status, body.as_slice(), allow, last)
+    put_response(out, status, body.as_slice(), allow, last)
 }
 
-/// What an accepted command gives: of a batch, how many operations it has.
-fn value_of(command: &Command) -> i64
-    requires { IsBuilt command.now }
-    ensures { (rows now : List Row) (number : ℕ) (moment value : ℤ) → step rows number command.now moment ≡ accepted now value → value ≡ result }
-{
-    match command {
-        Command::Sync { version: _, ops } => ops.len() as i64,
-        _ => unreachable!(),
-    }
-}
-
-/// Carries out a command. The response is made before the write is done, so that where memory runs out nothing is changed.
+/// Carries out a command. The room for the response to an accepted one is taken before, so that where memory runs out nothing is
+/// changed.
 fn write<P: Keeper + Drop>(
     alloc: Global,
     shop: &mut ShopState<P>,
     command: &Command,
     moment: Moment,
     last: bool,
-) -> Result<List<u8>, NoMemory>
+    out: &mut Vec<u8>,
+) -> Result<(), NoMemory>
     requires built { IsBuilt command.now }
     requires moment { IsMoment moment }
-    ensures ok { IfOk result (λ out. (way : Way) × ServesBy way shop.old (asks (requests.Write command.now)) moment last out shop.new) }
-    ensures err { OnErr result (IsLeft shop.old shop.new) }
+    ensures ok { OnOk result ((way : Way) × (response : List ℕ) × ServesBy way shop.old (asks (requests.Write command.now)) moment last response shop.new
+        × (out.new.items ≡ out.old.items ++ response)) }
+    ensures err { OnErr result ((shop.new ≡ shop.old) × (out.new.items ≡ out.old.items)) }
 {
-    // A write that is accepted has the next number. Where there is no next number, none is accepted.
-    let front = shop.accepted().saturating_add(1);
-    let value = value_of(command);
-    let out = respond(alloc, Reply::Done(Done { front, value }), None, last)?;
+    reserve_done(out)?;
     match shop.commit(alloc, command, moment) {
-        Ok(_) => Ok(out),
-        Err(CommitFault::Refused(refused)) => {
-            respond(alloc, Reply::Refused(refused), None, last)
+        Ok(done) => {
+            put_done(out, done.front, done.value, last);
+            Ok(())
         }
-        Err(CommitFault::StoreFailed) => respond(alloc, Reply::StoreFailed, None, last),
+        Err(CommitFault::Refused(refused)) => {
+            respond(alloc, Reply::Refused(refused), None, last, out)
+        }
+        Err(CommitFault::StoreFailed) => {
+            put_store_failed(out, last);
+            Ok(())
+        }
         Err(CommitFault::NoMemory) => Err(NoMemory),
     }
 }
 
-/// The response to a read with the body that shows what it asks for.
-fn respond_shown(alloc: Global, body: &[u8], last: bool) -> Result<List<u8>, NoMemory>
-    ensures { IfOk result (λ out. out ≡ response_text 200 body.now None last) }
-{
-    response(alloc, 200, body, None, last)
-}
-
-/// The response to a read that breaks a rule.
-fn refuse(alloc: Global, broken: Broken, last: bool) -> Result<List<u8>, NoMemory>
-    ensures { IfOk result (λ out. out ≡ reply_text (shown (Err broken)) None last) }
+/// Puts the response to a read that breaks a rule.
+fn refuse(alloc: Global, broken: Broken, last: bool, out: &mut Vec<u8>) -> Result<(), NoMemory>
+    ensures ok { OnOk result (out.new.items ≡ out.old.items ++ reply_text (shown (Err broken)) None last) }
+    ensures err { OnErr result (out.new.items ≡ out.old.items) }
 {
     let refused = Refused { op: 0, broken };
-    respond(alloc, Reply::Refused(refused), None, last)
+    respond(alloc, Reply::Refused(refused), None, last, out)
 }
 
 /// Shows a row, printed where it stands.
@@ -146,12 +153,20 @@ fn show<P: Keeper + Drop>(
     shop: &ShopState<P>,
     read: &RowRead,
     last: bool,
-) -> Result<List<u8>, NoMemory>
-    ensures { IfOk result (λ out. out ≡ reply_text (shown (answered replies.Row (reading shop.now.rows read.now))) None last) }
+    out: &mut Vec<u8>,
+) -> Result<(), NoMemory>
+    ensures ok { OnOk result (out.new.items ≡ out.old.items ++ reply_text (shown (answered replies.Row (reading shop.now.rows read.now))) None last) }
+    ensures err { OnErr result (out.new.items ≡ out.old.items) }
 {
     match shop.see_row(alloc, read) {
-        Ok(seen) => respond_shown(alloc, seen_row_text(alloc, &seen)?.as_slice(), last),
-        Err(AskFault::Refused(broken)) => refuse(alloc, broken, last),
+        Ok(seen) => put_response(
+            out,
+            200,
+            seen_row_text(alloc, &seen)?.as_slice(),
+            None,
+            last,
+        ),
+        Err(AskFault::Refused(broken)) => refuse(alloc, broken, last, out),
         Err(AskFault::NoMemory) => Err(NoMemory),
     }
 }
@@ -164,12 +179,20 @@ fn list<P: Keeper + Drop>(
     id: u128,
     second: u128,
     last: bool,
-) -> Result<List<u8>, NoMemory>
-    ensures { IfOk result (λ out. out ≡ reply_text (shown (answered replies.RowList (with_bare (listing shop.now.rows entity.now id second)))) None last) }
+    out: &mut Vec<u8>,
+) -> Result<(), NoMemory>
+    ensures ok { OnOk result (out.new.items ≡ out.old.items ++ reply_text (shown (answered replies.RowList (with_bare (listing shop.now.rows entity.now id second)))) None last) }
+    ensures err { OnErr result (out.new.items ≡ out.old.items) }
 {
     match shop.see_list(entity, id, second) {
-        Ok(rows) => respond_shown(alloc, seen_list_text(alloc, rows)?.as_slice(), last),
-        Err(broken) => refuse(alloc, broken, last),
+        Ok(rows) => put_response(
+            out,
+            200,
+            seen_list_text(alloc, rows)?.as_slice(),
+            None,
+            last,
+        ),
+        Err(broken) => refuse(alloc, broken, last, out),
     }
 }
 
@@ -180,22 +203,24 @@ fn answer_request<P: Keeper + Drop>(
     request: Request,
     moment: Moment,
     last: bool,
-) -> Result<List<u8>, NoMemory>
+    out: &mut Vec<u8>,
+) -> Result<(), NoMemory>
     requires built { IsBuiltRequest request }
     requires moment { IsMoment moment }
-    ensures ok { IfOk result (λ out. (way : Way) × ServesBy way shop.old (asks request) moment last out shop.new) }
-    ensures err { OnErr result (ServesBy short shop.old (asks request) moment last (no_memory_text last) shop.new) }
+    ensures ok { OnOk result ((way : Way) × (response : List ℕ) × ServesBy way shop.old (asks request) moment last response shop.new
+        × (out.new.items ≡ out.old.items ++ response)) }
+    ensures err { OnErr result ((shop.new ≡ shop.old) × (out.new.items ≡ out.old.items)) }
 {
     match request {
-        Request::Write(command) => write(alloc, shop, &command, moment, last),
-        Request::Row(read) => show(alloc, shop, &read, last),
+        Request::Write(command) => write(alloc, shop, &command, moment, last, out),
+        Request::Row(read) => show(alloc, shop, &read, last, out),
         Request::RowList { entity, id, second } => {
-            list(alloc, shop, entity.as_bytes(), id, second, last)
+            list(alloc, shop, entity.as_bytes(), id, second, last, out)
         }
     }
 }
 
-impl<'r, P: Keeper + Drop> Answerer for Desk<'r, P> {
+impl<P: Keeper + Drop> Answerer for Desk<P> {
     ghost serves = { IsServed };
 
     ghost gives = { Gives };
@@ -203,15 +228,17 @@ impl<'r, P: Keeper + Drop> Answerer for Desk<'r, P> {
     fn answer(
         &mut self,
         alloc: Global,
-        head: &Head<'_>,
+        _head: &Head<'_>,
         body: &[u8],
+        looked: &Looked<'_>,
         moment: Moment,
         last: bool,
-    ) -> Result<List<u8>, NoMemory> {
-        match request_in(alloc, self.routes, head, body) {
-            Ok(request) => answer_request(alloc, &mut self.shop, request, moment, last),
+        out: &mut Vec<u8>,
+    ) -> Result<(), NoMemory> {
+        match request_in(alloc, looked, body) {
+            Ok(request) => answer_request(alloc, &mut self.shop, request, moment, last, out),
             Err(TurnedAway::Line { fault, allow }) => {
-                respond(alloc, Reply::Line(fault), allow, last)
+                respond(alloc, Reply::Line(fault), allow, last, out)
             }
             Err(TurnedAway::NoMemory) => Err(NoMemory),
         }

@@ -1,5 +1,5 @@
 //! The bytes that were read off a connection and not yet used.
-ghost use Rattle.std.specs.Prelude.{◌≡◌, ◌+◌, ◌-◌, ◌≤◌, ◌++◌, ℕ, List, [], length, take, drop, IfOk, OnOk, IsErrOf, MatchResult};
+ghost use Rattle.std.specs.Prelude.{◌≡◌, ◌+◌, ◌-◌, ◌<◌, ◌≤◌, ◌++◌, ℕ, List, [], length, take, drop, true, false, IfOk, OnOk, OnErr, IsErrOf, MatchResult};
 ghost use Rattle.std.specs.Io.KnownBytes.{Consumes, IsAtEnd};
 ghost use Rattle.shop_outside.specs.Causes.{HasCause, Rose};
 
@@ -55,6 +55,26 @@ impl Input {
         ensures { result.now ≡ self.now }
     {
         &self.bytes[self.start..self.end]
+    }
+
+    /// Reads until there are so many bytes, or to the end of the input: `true` says that it ended. No error comes where there
+    /// are as many.
+    pub(crate) fn fill_to<L: Link>(&mut self, link: &mut L, least: usize) -> Result<bool, FillFault>
+        ensures read { (piece : List ℕ) × Consumes (L.left link.old) (L.left link.new) piece × (self.new ≡ self.old ++ piece) }
+        ensures ok { IfOk result (λ ended. (ended ≡ true → IsAtEnd (L.left link.new)) × (ended ≡ false → least ≤ length self.new)) }
+        ensures err { OnErr result (length self.new < least) }
+        ensures failed { IsErrOf result FillFault.ReadFault → Rose (L.read_faults link.old) (L.read_faults link.new) }
+        ensures kept { (IsErrOf result FillFault.ReadFault → ⊥) → L.read_faults link.new ≡ L.read_faults link.old }
+        ensures written { L.written link.new ≡ L.written link.old }
+        ensures writes { L.write_faults link.new ≡ L.write_faults link.old }
+        ensures names { L.names link.new ≡ L.names link.old }
+    {
+        while self.rest().len() < least {
+            if self.fill(link)? == 0 {
+                return Ok(true);
+            }
+        }
+        Ok(false)
     }
 
     /// Takes the first bytes away. The others stay where they are.

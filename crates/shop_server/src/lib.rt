@@ -6,9 +6,10 @@
 //!   has them in plain words).
 //! - `serve` is the loop of a connection over any link, any way to cut requests off, any answerer
 //!   and any clock: it ends in a `Session` whose requests, bytes and way of ending fit, with one
-//!   moment of the clock for each request, and its faults have their cause.
-//! - A `Desk`, which is a shop and the router, answers as `Gives` says: by the rows, by the fixed
-//!   507, or, at a write that would be accepted, by 503 where the keeper's count rose.
+//!   moment of the clock for each request, and its faults have their cause. Answers to requests that
+//!   were read already are written together.
+//! - A `Desk`, which is a shop, answers as `Gives` says: by the rows, by the fixed 507, which leaves
+//!   all as it was, or, at a write that would be accepted, by 503 where the keeper's count rose.
 //! - `law_of_the_replies`: the answers are a fold over the rows, with the moments that the clock
 //!   tells and no more 503 than the count rose by. `law_of_the_count`: a connection accepts at most
 //!   as many writes as it has requests.

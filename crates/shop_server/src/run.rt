@@ -42,7 +42,7 @@ fn serve_over<S: Source, K: Sink, P: Keeper + Drop, C: Clock>(
     ensures reads_kept { (result.1 ≡ Ended.ReadFault → ⊥) → S.read_faults source.new ≡ S.read_faults source.old }
     ensures writes_kept { (result.1 ≡ Ended.WriteFault → ⊥) → K.write_faults sink.new ≡ K.write_faults sink.old }
 {
-    let mut desk = Desk::new(shop, routes);
+    let mut desk = Desk::new(shop);
     let mut link = Pair { source, sink };
     let ended = serve(
         alloc,
@@ -88,8 +88,8 @@ fn run<S: Source, K: Sink, P: Keeper + Drop, C: Clock>(
 /// At the one word `run` the shop that the keeper holds is opened, requests are read from the source and answered on the sink, and
 /// accepted writes are kept by the keeper. The clock is read once for each request. At the one word `check` the shop is opened and
 /// reported on the sink: `rows R` and `number N`, a line each, or `damaged KEY RULE`. The keeper comes back, and holds what the
-/// accepted writes led to, where it tells. The clauses speak of what was read, written and kept in the end. That each request is
-/// answered before more is read is how the loop is built, and is tested with a client that waits; that a write is kept before it is
+/// accepted writes led to, where it tells. The clauses speak of what was read, written and kept in the end. That what is due
+/// is written before more is read is how the loop is built, and is tested with a client that waits; that a write is kept before it is
 /// answered is how the answerer is built, and is tested with a sink that fails at the answer.
 ///
 /// | Status | Where |
@@ -147,11 +147,11 @@ pub fn run_shop<S: Source, K: Sink, P: Keeper + Drop, C: Clock>(
     ensures reported { (held : Kept) → IsCheck words.now → P.content keeper ≡ Some held
         → IsCutShort result.1.number ⊎ (result.1.number ≡ (report_of held).status) }
 
-    // What `run` writes is a front of the output for the whole input, and all of it where the status isn't 3, 4, 5 or 9. How often
-    // and why a write was answered 503 is said by `ran`.
+    // What `run` writes is a front of the output for the whole input, and all of it where the status isn't 3, 4, 5 or 9. Each answer
+    // is of its own moment of the clock, and there are at most as many 503 as the keeper's count rose by.
     ensures answered { (all before : List ℕ) (start : State) → IsRun words.now
         → S.left source.old ≡ Some all → K.written sink.old ≡ Some before → Keeps (P.content keeper) start
-        → HasWritten start all before (K.written sink.new) result.1.number }
+        → HasWritten start (C.coming clock.old) (P.keep_faults keeper) (P.keep_faults result.0) all before (K.written sink.new) result.1.number }
 {
     match verb_of(words) {
         None => (keeper, Status { number: 2 }),

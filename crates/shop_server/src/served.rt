@@ -2,18 +2,42 @@
 ghost use Rattle.std.specs.Prelude.{◌≡◌};
 ghost use Rattle.shop_http.specs.Laws.{longest};
 ghost use Rattle.shop_server.specs.Lawful.{the_cut};
-ghost use Rattle.shop_server.specs.Cutting.{cut};
+ghost use Rattle.shop_server.specs.Cutting.{IsServedNext, cut};
 ghost use Rattle.shop_server.specs.Run.{fatal_text};
 
 use crate::framing::Framing;
 use crate::refusal::Refusal;
-use shop_http::{Next, next_request};
-use shop_routes::Routes;
+use shop_http::{Head, Next, next_request};
+use shop_routes::{Looked, Routes};
 
 /// The requests that are served: all but those whose answer isn't there yet.
 #[derive(Clone, Copy)]
 pub struct ServedRequests<'r> {
     pub routes: &'r Routes,
+}
+
+impl<'r> ServedRequests<'r> {
+    /// A request with what was looked up of it, or a refusal where its answer isn't there yet.
+    fn served<'b>(
+        &self,
+        head: Head<'b>,
+        body: &'b [u8],
+        used: usize,
+    ) -> Next<'b, Refusal, Looked<'b>>
+        ensures { IsServedNext head.entry body.entry.now used result }
+    {
+        let found = self.routes.look(&head);
+        if found.asks_later() {
+            Next::Fatal(Refusal::NotBuilt)
+        } else {
+            Next::Whole {
+                head,
+                body,
+                used,
+                found,
+            }
+        }
+    }
 }
 
 impl<'r> Framing for ServedRequests<'r> {
@@ -25,17 +49,15 @@ impl<'r> Framing for ServedRequests<'r> {
 
     ghost fatal = { fatal_text };
 
-    #[tactic(auto, unfolding(crate::specs::Cutting::cut))]
-    fn next<'b>(&self, bytes: &'b [u8], ended: bool) -> Next<'b, Refusal> {
+    fn next<'b>(&self, bytes: &'b [u8], ended: bool) -> Next<'b, Refusal, Looked<'b>> {
         match next_request(bytes, ended) {
-            Next::Whole { head, body, used } => {
-                if self.routes.asks_later(&head) {
-                    Next::Fatal(Refusal::NotBuilt)
-                } else {
-                    Next::Whole { head, body, used }
-                }
-            }
-            Next::More => Next::More,
+            Next::Whole {
+                head,
+                body,
+                used,
+                ..
+            } => self.served(head, body, used),
+            Next::More { least } => Next::More { least },
             Next::Nothing => Next::Nothing,
             Next::Cut => Next::Cut,
             Next::Fatal(fault) => Next::Fatal(Refusal::of_head(fault)),

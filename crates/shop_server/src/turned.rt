@@ -1,11 +1,13 @@
 //! Why requests ask nothing of a shop.
-ghost use Rattle.std.specs.Prelude.{◌≡◌, None};
+ghost use Rattle.std.specs.Prelude.{◌≡◌, ◌⊎◌, None};
+ghost use Rattle.shop_requests.specs.declared.line_fault.LineFault.TheVariants as lines;
 ghost use Rattle.shop_server.specs.declared.turned.TurnedAway.TheVariants as turned;
 
+use shop_defs::Txt;
 use shop_http::Method2;
 use shop_json::BodyFault;
 use shop_requests::LineFault;
-use shop_routes::RouteFault;
+use std::alloc::Global;
 
 /// Why a request asks nothing of a shop.
 #[derive(Drop)]
@@ -23,29 +25,29 @@ pub(crate) enum TurnedAway {
 
 impl TurnedAway {
     /// It is malformed; its path and its method have a route.
-    fn line(fault: LineFault) -> TurnedAway
+    pub(crate) fn line(fault: LineFault) -> TurnedAway
         ensures { result ≡ turned.Line fault None }
     {
         TurnedAway::Line { fault, allow: None }
     }
-}
 
-impl From<RouteFault> for TurnedAway {
-    ghost use Rattle.std.specs.Prelude.{◌≡◌};
-    ghost use Rattle.shop_server.specs.Answering.{turned_by_route};
+    /// The part of its path of this name is malformed.
+    pub(crate) fn bad_path(alloc: Global, part: &str) -> TurnedAway
+        ensures { (result ≡ turned.Line (lines.BadPath part.now) None) ⊎ (result ≡ turned.NoMemory) }
+    {
+        match Txt::from_str(alloc, part) {
+            Ok(part) => TurnedAway::line(LineFault::BadPath(part)),
+            Err(_) => TurnedAway::NoMemory,
+        }
+    }
 
-    ghost from_gives = { λ fault turned. turned ≡ turned_by_route fault };
-
-    fn from(fault: RouteFault) -> TurnedAway {
-        match fault {
-            RouteFault::NoRoute => TurnedAway::line(LineFault::NoRoute),
-            RouteFault::WrongMethod { allow } => TurnedAway::Line {
-                fault: LineFault::WrongMethod,
-                allow: Some(allow),
-            },
-            RouteFault::BadPath { part } => TurnedAway::line(LineFault::BadPath(part)),
-            RouteFault::BadHeader { name } => TurnedAway::line(LineFault::BadHeader(name)),
-            RouteFault::NoMemory => TurnedAway::NoMemory,
+    /// The header of this name is malformed, or is there twice.
+    pub(crate) fn bad_header(alloc: Global, name: &str) -> TurnedAway
+        ensures { (result ≡ turned.Line (lines.BadHeader name.now) None) ⊎ (result ≡ turned.NoMemory) }
+    {
+        match Txt::from_str(alloc, name) {
+            Ok(name) => TurnedAway::line(LineFault::BadHeader(name)),
+            Err(_) => TurnedAway::NoMemory,
         }
     }
 }

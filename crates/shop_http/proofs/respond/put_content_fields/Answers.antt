@@ -7,7 +7,6 @@ steps a b c d x y z number p q r s =
     r ∙ ap (λ t. t ++ z) q ∙ ap (λ t. t ++ y ++ z) p ∙ ap (λ t. a ++ x ++ t ++ z) s
     ∙ append_assoc (a ++ x) number z ∙ append_assoc a x (number ++ z) ∙ ap (λ t. a ++ t) (sym (append_assoc x number z))
 
-pub returns : goal.returns
+pub returns-clause-items : goal.returns-clause-items
 unfolding content_lines
-returns c = steps _ _ _ _ _ _ _ _ c.in_ok-extend_from_slice.ensures.items c.in_ok-extend_from_slice-2.ensures.items c.in_ok-extend_from_slice-3.ensures.items
-    (c.as_bytes.ensures.value ∙ c.format.ensures.text)
+returns-clause-items c = steps _ _ _ _ _ _ _ _ c.put.ensures.items c.put-2.ensures.items c.put-3.ensures.items (c.as_bytes.ensures.value ∙ c.format.ensures.text)

@@ -1,6 +1,6 @@
 use Rattle.std.proofs.Common.{◌≡◌, ◌∙◌, Bool, true, false, not, sym, refl}
 use Rattle.shop_routes.specs.Routing.{routed}
-use Rattle.shop_routes.proofs.router.Routes.asks_later.Goals as goal
+use Rattle.shop_routes.proofs.router.Routes.look.Goals as goal
 
 not_true : (b : Bool) → not b ≡ true → b ≡ false
 not_true true e = cc
@@ -25,4 +25,4 @@ unfolding routed
 returns-in-Some-2 c =
     let same = not_false _ (sym c.ne.ensures ∙ c.if-ne.false) in
     let text = rw c.method_text.ensures at same in
-    λ body. rw (c.in-Some.ensures.0, text) (c.is_found_later.ensures body)
+    λ body. rw (c.in-Some.ensures.0, text) (c.look_at.ensures body)
