@@ -15,7 +15,7 @@ pub(crate) fn in_order(rows: &Rows)
     ensures { IsInKeyOrder rows.now.list }
 {
     // Of this call just its promise is wanted.
-    let _all = rows.as_slice().len();
+    let _all = rows.len();
 }
 
 /// The key of a live row of an entity whose keys have one part.

@@ -88,6 +88,10 @@ last_rows rows row i all point =
 pub entity_up : (rows : List Row) (row : Row) → count_by (λ other. is_up row other && is_entity row.key.entity other.key.entity) rows ≡ count_rows (up_to rows row) row.key.entity
 entity_up rows row = sym (count_by-filter (λ other. is_entity row.key.entity other.key.entity) (is_up row) rows)
 
+-- so many of them up to a row are more than a number or not
+pub more_up : (rows : List Row) (row : Row) (most n : ℕ) → n ≡ count_by (λ other. is_up row other && is_entity row.key.entity other.key.entity) rows → nat_lt most n ≡ nat_lt most (count_rows (up_to rows row) row.key.entity)
+more_up rows row most n e = ap (nat_lt most) (e ∙ entity_up rows row)
+
 -- ---- of an owner
 
 -- the live rows of an owner up to a row, counted by one test
@@ -113,6 +117,13 @@ fewer_up rows row p =
 not_more : (a : Bool) (most n : ℕ) → n ≤ most → false ≡ (a && nat_lt most n)
 not_more true most n few = grind (arith, nat_tests)
 not_more false most n few = refl
+
+-- where an entity has no more rows than a number, it hasn't up to a row
+pub none_more_up : (rows : List Row) (row : Row) (most count : ℕ) → count ≡ count_rows rows row.key.entity → count ≤ most → false ≡ nat_lt most (count_rows (up_to rows row) row.key.entity)
+none_more_up rows row most count is few =
+    let less : count_by (λ other. is_up row other && is_entity row.key.entity other.key.entity) rows ≤ count_rows rows row.key.entity =
+    count_under (λ other. is_up row other && is_entity row.key.entity other.key.entity) (λ other. is_entity row.key.entity other.key.entity) rows (λ x i h. (and_parts (is_up row x) (is_entity row.key.entity x.key.entity) h).1) in
+    not_more true most (count_rows (up_to rows row) row.key.entity) (omega (arith, less, entity_up rows row, is))
 
 -- an owner that isn't over the limit isn't so up to a row
 pub owner_not_full : (rows : List Row) (row : Row) (limit : OwnerLimit) (owner : ℕ) → part_of limit.owner row ≡ Some owner → count_owned limit (live rows) owner ≤ limit.most → false ≡ owner_is_full (live (up_to rows row)) row limit

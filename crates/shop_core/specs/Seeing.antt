@@ -15,3 +15,13 @@ abbrev pub Sees : Result RowSeen AskFault → Result RowReply Broken → Type 0
 Sees (Ok seen) shown = shown ≡ Ok (reply_of seen)
 Sees (Err (asking.Refused broken)) shown = shown ≡ Err broken
 Sees (Err asking.NoMemory) shown = Unit {0}
+
+-- and so of a list of lent rows
+abbrev pub SeesRows : Result (Vec (Bor Row) Global) AskFault → Result (List Row) Broken → Type 0
+SeesRows (Ok rows) shown = shown ≡ Ok (map (λ row. row.now) rows.items)
+SeesRows (Err (asking.Refused broken)) shown = shown ≡ Err broken
+SeesRows (Err asking.NoMemory) shown = Unit {0}
+
+-- the row is a live one of the entity
+abbrev pub is_of : Entity → Row → Bool
+is_of entity row = nat_eq (entity_number row.key.entity) (entity_number entity) && nat_eq row.key.version 0

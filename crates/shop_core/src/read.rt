@@ -8,7 +8,7 @@ ghost use Rattle.shop_chain.specs.Chains as Chains;
 ghost use Rattle.shop_chain.specs.Showing as Showing;
 ghost use Rattle.shop_core.specs.Requests as spec;
 ghost use Rattle.shop_core.specs.Requests.{Shows, listing, reading, with_bare};
-ghost use Rattle.shop_core.specs.Seeing.{Sees};
+ghost use Rattle.shop_core.specs.Seeing.{Sees, SeesRows, is_of};
 
 use crate::answers::{AskFault, RowReply, RowSeen};
 use shop_chain::{Shown, chain, chain_of, shown_of};
@@ -174,25 +174,29 @@ fn copy_value(alloc: Global, value: Option<&Value>) -> Result<Option<Value>, NoM
 /// The first 100 live rows of the entity above a place, or all of them where they are fewer, lent.
 #[tactic(auto, unfolding(crate::specs::Requests::listing))]
 pub(crate) fn see_list<'a>(
+    alloc: Global,
     rows: &'a Rows,
     entity: &[u8],
     id: u128,
     second: u128,
-) -> Result<&'a [Row], Broken>
-    ensures { MatchResult result
-        (λ listed. listing rows.entry.now.list entity.now id second ≡ Ok listed.now)
-        (λ broken. listing rows.entry.now.list entity.now id second ≡ Err broken) }
+) -> Result<Vec<&'a Row>, AskFault>
+    ensures { SeesRows result (listing rows.entry.now.list entity.now id second) }
 {
     match entity_named(entity) {
-        Some(entity) => Ok(listed(rows.as_slice(), entity, id, second)),
-        None => Err(Broken::UnknownEntity),
+        Some(entity) => Ok(listed(alloc, rows, entity, id, second)?),
+        None => Err(AskFault::Refused(Broken::UnknownEntity)),
     }
 }
 
 /// The rows that are listed: they stand together, right behind the place.
-fn listed(rows: &[Row], entity: Entity, id: u128, second: u128) -> &[Row]
-    requires { IsInKeyOrder rows.now }
-    ensures { result.now ≡ take spec.most_listed (filter (spec.is_listed entity id second) rows.now) }
+fn listed<'a>(
+    alloc: Global,
+    rows: &'a Rows,
+    entity: Entity,
+    id: u128,
+    second: u128,
+) -> Result<Vec<&'a Row>, NoMemory>
+    ensures { IfOk result (λ listed. map (λ row. row.now) listed.items ≡ take spec.most_listed (filter (spec.is_listed entity id second) rows.entry.now.list)) }
 {
     let place = Key {
         entity,
@@ -200,11 +204,22 @@ fn listed(rows: &[Row], entity: Entity, id: u128, second: u128) -> &[Row]
         id,
         second,
     };
-    let start = rows.partition_point(|row| row.key.order(&place).is_le());
-    let behind = &rows[start..];
-    let few = &behind[..MOST_LISTED.min(behind.len())];
-    let len = few.partition_point(|row| row.key.entity == entity && row.key.version == 0);
-    &few[..len]
+    let mut listed = Vec::new(alloc);
+    let mut behind = rows.behind(&place);
+    while let Some(row) = behind.next() {
+        if listed.len() >= MOST_LISTED || !is_live_of(entity, row) {
+            return Ok(listed);
+        }
+        listed.push(row)?;
+    }
+    Ok(listed)
+}
+
+/// Whether the row is a live one of the entity.
+fn is_live_of(entity: Entity, row: &Row) -> bool
+    ensures { result ≡ is_of entity row.now }
+{
+    row.key.entity == entity && row.key.version == 0
 }
 
 /// Copies of the rows that are listed.
@@ -217,15 +232,13 @@ pub(crate) fn copy_list(
 ) -> Result<List<RowReply>, AskFault>
     ensures { Shows result (with_bare (listing rows.now.list entity.now id second)) }
 {
-    match see_list(rows, entity, id, second) {
-        Ok(listed) => Ok(copy_bare(alloc, listed)?),
-        Err(broken) => Err(AskFault::Refused(broken)),
-    }
+    let listed = see_list(alloc, rows, entity, id, second)?;
+    Ok(copy_bare(alloc, listed.as_slice())?)
 }
 
 /// Copies of the rows, with nothing shown beside them.
-fn copy_bare(alloc: Global, rows: &[Row]) -> Result<List<RowReply>, NoMemory>
-    ensures { IfOk result (λ copy. copy ≡ map spec.bare rows.now) }
+fn copy_bare(alloc: Global, rows: &[&Row]) -> Result<List<RowReply>, NoMemory>
+    ensures { IfOk result (λ copy. copy ≡ map (λ row. spec.bare row.now) rows.now) }
 {
     let mut copy = List::from_vec(Vec::with_capacity(alloc, rows.len())?);
     for row in rows {

@@ -8,7 +8,7 @@ ghost use Rattle.shop_core.specs.Shops.{ShopView, IsShop};
 ghost use Rattle.shop_core.specs.Commits.{Commits};
 ghost use Rattle.shop_core.specs.Opening.{Opens, HasOpenCause, IsNoDamage};
 ghost use Rattle.shop_core.specs.Requests.{Answers, IsBuiltRequest, Shows, listing, reading, with_bare};
-ghost use Rattle.shop_core.specs.Seeing.{Sees};
+ghost use Rattle.shop_core.specs.Seeing.{Sees, SeesRows};
 ghost use Rattle.shop_core.specs.FirstBroken.{KeepsRules, NamesFirst};
 
 use crate::answers::{
@@ -202,16 +202,15 @@ impl<P: Keeper + Drop> ShopState<P> {
     /// Those of `read_list`.
     pub fn see_list<'a>(
         &'a self,
+        alloc: Global,
         entity: &[u8],
         id: u128,
         second: u128,
-    ) -> Result<&'a [Row], Broken>
-        ensures sees { MatchResult result
-            (λ rows. listing self.entry.now.rows entity.now id second ≡ Ok rows.now)
-            (λ broken. listing self.entry.now.rows entity.now id second ≡ Err broken) }
+    ) -> Result<Vec<&'a Row>, AskFault>
+        ensures sees { SeesRows result (listing self.entry.now.rows entity.now id second) }
         ensures shop { IsShop self.entry.now }
     {
-        see_list(&self.rows, entity, id, second)
+        see_list(alloc, &self.rows, entity, id, second)
     }
 
     /// Answers one request that is built: a write as `commit` does, and a read as `read_row` or `read_list` does,

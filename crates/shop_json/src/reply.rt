@@ -94,17 +94,12 @@ fn if_any_seen<'s, 'a>(shown: &'s Shown<'a>) -> Option<&'s [ShownValue<'a>]>
     }
 }
 
-/// Prints the body of the reply that lists these rows where they stand, as `seen_row_text` does. The
-/// references to them are the only memory that is always taken.
+/// Prints the body of the reply that lists these rows where they stand, as `seen_row_text` does.
 #[tactic(auto, unfolding(crate::specs::Replying::reply_body))]
-pub fn seen_list_text(alloc: Global, room: &mut Vec<u8>, rows: &[Row]) -> Result<(), NoMemory>
-    ensures { OnOk result (room.new.items ≡ spec.reply_body (replies.RowList (map bare rows.now))) }
+pub fn seen_list_text(alloc: Global, room: &mut Vec<u8>, rows: &[&Row]) -> Result<(), NoMemory>
+    ensures { OnOk result (room.new.items ≡ spec.reply_body (replies.RowList (map (λ row. bare row.now) rows.now))) }
 {
-    let mut listed = Vec::with_capacity(alloc, rows.len())?;
-    for row in rows {
-        listed.push(row)?;
-    }
-    rows_text(alloc, room, listed.as_slice())
+    rows_text(alloc, room, rows)
 }
 
 fn copy_body(alloc: Global, body: &[u8]) -> Result<List<u8>, NoMemory>

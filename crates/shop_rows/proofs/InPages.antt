@@ -252,3 +252,12 @@ putting_ascends changes rows e up = ascends_read changes (rw e (puts_ascend rows
 
 pub putting_stand : {Z : Type 0} (changes : List (Key × Option (Arc Row Z))) (rows : List Row) → map read_change changes ≡ map put_in rows → StandUnderTheirKeys (map read_change changes)
 putting_stand changes rows e = rw e (puts_stand rows)
+
+-- ---- what stands under a key afterwards
+
+pub last_after : (rows next : List Row) (changes : List Change) → IsInKeyOrder rows → next ≡ change_rows rows changes → StandUnderTheirKeys changes → (key : Key) → row_at next key ≡ row_after (last_in changes key) (row_at rows key)
+last_after rows next changes up e own key = ap (λ l. row_at l key) e ∙ row_at-change_rows changes rows up own key
+
+pub once_after : (rows next : List Row) (changes : List Change) → IsInKeyOrder rows → next ≡ change_rows rows changes → StandUnderTheirKeys changes → HasAscendingKeys changes → (key : Key) → row_at next key ≡ row_after (change_at changes key) (row_at rows key)
+once_after rows next changes up e own ascend key =
+    last_after rows next changes up e own key ∙ ap (λ found. row_after found (row_at rows key)) (last_in-ascending changes key ascend)

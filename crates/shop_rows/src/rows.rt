@@ -133,6 +133,7 @@ impl Rows {
 
     /// Makes the changes of the delta, for which the rows are ready: each key has the delta's row or
     /// none, and all else stays. It takes no memory.
+    #[tactic(auto, using(crate::proofs::InPages::last_after, crate::proofs::InPages::once_after))]
     pub fn apply(&mut self, delta: Delta)
         requires { self.old.spare ≡ Some delta }
         ensures list { self.new.list ≡ change_rows self.old.list delta.changes }

@@ -30,6 +30,8 @@ use std::marker::Model;
 #[derive(Drop)]
 pub(crate) struct Desk<P: Keeper + Drop> {
     shop: ShopState<P>,
+    /// Where the body of a read is printed: a read takes no memory for it once there is enough.
+    room: Vec<u8>,
 }
 
 impl<P: Keeper + Drop> Model for Desk<P> {
@@ -42,10 +44,13 @@ impl<P: Keeper + Drop> Model for Desk<P> {
 
 impl<P: Keeper + Drop> Desk<P> {
     /// A desk over a shop.
-    pub(crate) fn new(shop: ShopState<P>) -> Desk<P>
+    pub(crate) fn new(alloc: Global, shop: ShopState<P>) -> Desk<P>
         ensures { result ≡ shop }
     {
-        Desk { shop }
+        Desk {
+            shop,
+            room: Vec::new(alloc),
+        }
     }
 
     /// The keeper of the shop.
@@ -54,7 +59,7 @@ impl<P: Keeper + Drop> Desk<P> {
         ensures faults { P.keep_faults result ≡ self.faults }
         ensures shop { IsShop self }
     {
-        let Desk { shop } = self;
+        let Desk { shop, room: _ } = self;
         shop.close()
     }
 }
@@ -84,7 +89,7 @@ fn asked_in(alloc: Global, asks: &Asks<'_>, body: &[u8]) -> Result<Request, Turn
     ensures built { IfOk result IsBuiltRequest }
 {
     match asks.route(alloc) {
-        Ok(route) => Ok(read_body(alloc, &route, body)?),
+        Ok(route) => Ok(read_body(alloc, route, body)?),
         Err(_) => Err(TurnedAway::NoMemory),
     }
 }
@@ -151,6 +156,7 @@ fn refuse(alloc: Global, broken: Broken, last: bool, out: &mut Vec<u8>) -> Resul
 fn show<P: Keeper + Drop>(
     alloc: Global,
     shop: &ShopState<P>,
+    room: &mut Vec<u8>,
     read: &RowRead,
     last: bool,
     out: &mut Vec<u8>,
@@ -159,13 +165,10 @@ fn show<P: Keeper + Drop>(
     ensures err { OnErr result (out.new.items ≡ out.old.items) }
 {
     match shop.see_row(alloc, read) {
-        Ok(seen) => put_response(
-            out,
-            200,
-            seen_row_text(alloc, &seen)?.as_slice(),
-            None,
-            last,
-        ),
+        Ok(seen) => {
+            seen_row_text(alloc, room, &seen)?;
+            put_response(out, 200, room.as_slice(), None, last)
+        }
         Err(AskFault::Refused(broken)) => refuse(alloc, broken, last, out),
         Err(AskFault::NoMemory) => Err(NoMemory),
     }
@@ -175,6 +178,7 @@ fn show<P: Keeper + Drop>(
 fn list<P: Keeper + Drop>(
     alloc: Global,
     shop: &ShopState<P>,
+    room: &mut Vec<u8>,
     entity: &[u8],
     id: u128,
     second: u128,
@@ -184,15 +188,13 @@ fn list<P: Keeper + Drop>(
     ensures ok { OnOk result (out.new.items ≡ out.old.items ++ reply_text (shown (answered replies.RowList (with_bare (listing shop.now.rows entity.now id second)))) None last) }
     ensures err { OnErr result (out.new.items ≡ out.old.items) }
 {
-    match shop.see_list(entity, id, second) {
-        Ok(rows) => put_response(
-            out,
-            200,
-            seen_list_text(alloc, rows)?.as_slice(),
-            None,
-            last,
-        ),
-        Err(broken) => refuse(alloc, broken, last, out),
+    match shop.see_list(alloc, entity, id, second) {
+        Ok(rows) => {
+            seen_list_text(alloc, room, rows.as_slice())?;
+            put_response(out, 200, room.as_slice(), None, last)
+        }
+        Err(AskFault::Refused(broken)) => refuse(alloc, broken, last, out),
+        Err(AskFault::NoMemory) => Err(NoMemory),
     }
 }
 
@@ -200,6 +202,7 @@ fn list<P: Keeper + Drop>(
 fn answer_request<P: Keeper + Drop>(
     alloc: Global,
     shop: &mut ShopState<P>,
+    room: &mut Vec<u8>,
     request: Request,
     moment: Moment,
     last: bool,
@@ -213,10 +216,11 @@ fn answer_request<P: Keeper + Drop>(
 {
     match request {
         Request::Write(command) => write(alloc, shop, &command, moment, last, out),
-        Request::Row(read) => show(alloc, shop, &read, last, out),
+        Request::Row(read) => show(alloc, shop, room, &read, last, out),
         Request::RowList { entity, id, second } => {
-            list(alloc, shop, entity.as_bytes(), id, second, last, out)
+            list(alloc, shop, room, entity.as_bytes(), id, second, last, out)
         }
+        _ => unreachable!(),
     }
 }
 
@@ -236,7 +240,15 @@ impl<P: Keeper + Drop> Answerer for Desk<P> {
         out: &mut Vec<u8>,
     ) -> Result<(), NoMemory> {
         match request_in(alloc, looked, body) {
-            Ok(request) => answer_request(alloc, &mut self.shop, request, moment, last, out),
+            Ok(request) => answer_request(
+                alloc,
+                &mut self.shop,
+                &mut self.room,
+                request,
+                moment,
+                last,
+                out,
+            ),
             Err(TurnedAway::Line { fault, allow }) => {
                 respond(alloc, Reply::Line(fault), allow, last, out)
             }

@@ -42,7 +42,7 @@ fn serve_over<S: Source, K: Sink, P: Keeper + Drop, C: Clock>(
     ensures reads_kept { (result.1 ≡ Ended.ReadFault → ⊥) → S.read_faults source.new ≡ S.read_faults source.old }
     ensures writes_kept { (result.1 ≡ Ended.WriteFault → ⊥) → K.write_faults sink.new ≡ K.write_faults sink.old }
 {
-    let mut desk = Desk::new(shop);
+    let mut desk = Desk::new(alloc, shop);
     let mut link = Pair { source, sink };
     let ended = serve(
         alloc,

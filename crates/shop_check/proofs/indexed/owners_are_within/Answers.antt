@@ -7,4 +7,4 @@ use Rattle.shop_check.proofs.indexed.owners_are_within.Goals as goal
 
 pub returns : goal.returns
 unfolding owners_are_within
-returns c = c.are_all_within.ensures ∙ ap (λ (owners : List Row). list_all (λ owner. list_all (is_within c.args.rows.now.list owner) OWNER_LIMITS) owners) c.as_slice.ensures.rows
+returns c = c.are_all_within.ensures ∙ ap (λ (owners : List Row). list_all (λ owner. list_all (is_within c.args.rows.now.list owner) OWNER_LIMITS) owners) c.iter.ensures.rows

@@ -15,7 +15,7 @@ not_above most n few = grind (arith, nat_tests)
 
 pub returns-then-count_owned-limit : goal.returns-then-count_owned-limit
 returns-then-count_owned-limit c =
-    full_up c.args.self.now.list c.as_slice.result.now c.args.row.now c.args.limit.now c.count_owned_up_to.result (same_entity _ c.if-ne.ensures) c.as_slice.ensures.rows c.count_owned_up_to.ensures
+    full_up c.args.self.now.list c.iter.result c.args.row.now c.args.limit.now c.count_owned_up_to.result (same_entity _ c.if-ne.ensures) c.iter.ensures.rows c.count_owned_up_to.ensures
 
 pub returns-else-count_owned-limit : goal.returns-else-count_owned-limit
 returns-else-count_owned-limit c =
