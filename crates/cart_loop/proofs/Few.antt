@@ -1,5 +1,5 @@
 -- Rows that are as their entities have them and fit one another are what is relied on where a cart is settled.
-use Rattle.std.proofs.Common.{◌≡◌, ℕ, ◌≤◌, ◌+◌, Bool, true, false, ◌&&◌, ◌||◌, List, [], ◌∷◌, filter, length, Option, Some, None, refl, sym, ap, subst, ◌∙◌, arith}
+use Rattle.std.proofs.Common.{◌≡◌, ℕ, ◌≤◌, ◌+◌, Bool, true, false, ◌&&◌, ◌||◌, ◌==◌, List, [], ◌∷◌, filter, length, Option, Some, None, refl, sym, ap, subst, ◌∙◌, arith}
 use Rattle.std.specs.Prelude.{not, nat_lt, count_by, option_and_then}
 use Rattle.std.specs.List.{AllByRecursion, list_all, list_any}
 use Rattle.std.proofs.lemmas.Bool.{eqb-true}
@@ -80,11 +80,14 @@ of_one cart line other e f =
 
 -- ---- there are few
 
-counts_more : (p q : Row → Bool) → ((row : Row) → p row ≡ true → q row ≡ true) → (rows : List Row) → count_by p rows ≤ count_by q rows
+abbrev count : (Row → Bool) → List Row → ℕ
+count p rows = length (filter p rows)
+
+counts_more : (p q : Row → Bool) → ((row : Row) → p row ≡ true → q row ≡ true) → (rows : List Row) → count p rows ≤ count q rows
 counts_more p q more [] = omega arith
 counts_more p q more (row ∷ rows) = by (counts_more p q more rows) (p row) (q row) refl refl
   where
-    by : count_by p rows ≤ count_by q rows → (b c : Bool) → p row ≡ b → q row ≡ c → count_by p (row ∷ rows) ≤ count_by q (row ∷ rows)
+    by : count p rows ≤ count q rows → (b c : Bool) → p row ≡ b → q row ≡ c → count p (row ∷ rows) ≤ count q (row ∷ rows)
     by le true true e f = rw (e, f) (omega (arith, le))
     by le true false e f = let t : q row ≡ true = more row e in absurd (cc)
     by le false true e f = rw (e, f) (omega (arith, le))
@@ -102,23 +105,22 @@ not_full rows row e is =
     turned true h = absurd (cc)
     turned false h = refl
 
-few_in : (all : List Row) (cart : ℕ) (rows : List Row) → list_all (λ row. not (list_any (owner_is_full all row) OWNER_LIMITS)) rows ≡ true → count_by (is_line_of cart) rows ≤ count_by (is_line_of cart) all → (count_by (is_line_of cart) rows ≤ 0 → count_by (is_line_of cart) all ≤ 100) → count_by (is_line_of cart) all ≤ 100
-few_in all cart [] ok le none = none (omega arith)
-few_in all cart (row ∷ rows) ok le none = by (not (list_any (owner_is_full all row) OWNER_LIMITS)) (is_line_of cart row) refl refl (few_in all cart rows)
+few_in : (all : List Row) (cart : ℕ) (rows : List Row) → list_all (λ row. not (list_any (owner_is_full all row) OWNER_LIMITS)) rows ≡ true → (count (is_line_of cart) rows ≡ 0 → count (is_line_of cart) all ≤ 100) → count (is_line_of cart) all ≤ 100
+few_in all cart [] ok none = none refl
+few_in all cart (row ∷ rows) ok none = by (not (list_any (owner_is_full all row) OWNER_LIMITS)) (is_line_of cart row) refl refl (few_in all cart rows)
   where
     by : (b c : Bool) → not (list_any (owner_is_full all row) OWNER_LIMITS) ≡ b → is_line_of cart row ≡ c
-        → (list_all (λ row. not (list_any (owner_is_full all row) OWNER_LIMITS)) rows ≡ true → count_by (is_line_of cart) rows ≤ count_by (is_line_of cart) all → (count_by (is_line_of cart) rows ≤ 0 → count_by (is_line_of cart) all ≤ 100) → count_by (is_line_of cart) all ≤ 100)
-        → count_by (is_line_of cart) all ≤ 100
+        → (list_all (λ row. not (list_any (owner_is_full all row) OWNER_LIMITS)) rows ≡ true → (count (is_line_of cart) rows ≡ 0 → count (is_line_of cart) all ≤ 100) → count (is_line_of cart) all ≤ 100)
+        → count (is_line_of cart) all ≤ 100
     by true true e f more =
         let line = line_of_cart cart row f in
         let is : is_entity E.CartLine row.key.entity ≡ true = rw line.entity refl in
-        omega (arith, not_full all row e is, counts_more (is_line_of cart) (is_of_owner lines_limit row) (λ other h. of_one cart row other f h) all)
-    by true false e f more = more (rw e at ok) (rw f at le) (rw f at none)
+        omega (arith, not_full all row e is, length-filter (is_of_owner lines_limit row) all, counts_more (is_line_of cart) (is_of_owner lines_limit row) (λ other h. of_one cart row other f h) all)
+    by true false e f more = more (rw e at ok) (rw f at none)
     by false c e f more = let never : false ≡ true = rw e at ok in absurd (cc)
 
 lines_are_few : (rows : List Row) → IsCoherent (live_view rows) → (cart : ℕ) → length (naming rows E.CartLine N.Cart cart) ≤ 100
-lines_are_few rows coherent cart =
-    rw (length-filter (is_line_of cart) (live rows)) (few_in (live rows) cart (live rows) coherent.few (omega arith) (λ h. omega (arith, h)))
+lines_are_few rows coherent cart = few_in (live rows) cart (live rows) coherent.few (λ e. omega (arith, e))
 
 pub are_cart_rows : (rows : List Row) → AllByRecursion (λ row. IsRowOf row.key.entity row) rows → IsCoherent (live_view rows) → AreCartRows rows
 are_cart_rows rows each coherent = record { each = each; few = lines_are_few rows coherent }

@@ -9,7 +9,6 @@ use Rattle.shop_defs.specs.declared.value.Value.{Value}
 use Rattle.shop_defs.specs.declared.value.Value.TheVariants as V
 use Rattle.shop_defs.specs.Tables.{fields_of}
 use Rattle.row_fields.specs.Fields.{number_of}
-use Rattle.shop_chain.specs.Chains as chains
 use Rattle.shop_rules.specs.Leaves.{leaf_named}
 use Rattle.trees.specs.Holding.{holds}
 use Rattle.cart_price.specs.declared.priced.Block.{Block}
@@ -19,7 +18,6 @@ use Rattle.cart_process.specs.LinePrices.{line_price}
 use Rattle.cart_process.specs.Priced.{priced}
 use Rattle.cart_collect.specs.Collected.{collected}
 use Rattle.cart_loop.specs.declared.state.State.{State}
-use Rattle.cart_loop.specs.Labels.{labels}
 use Rattle.cart_loop.specs.Settling.{state}
 use Rattle.cart_loop.specs.Settled.{round_in}
 
@@ -63,20 +61,20 @@ shirts =
     ∷ []
 
 shirts_cost : goods_and_rules (after shirts 0) ≡ Some (pos 23800, [])
-unfolding state priced line_price number_of fields_of chains.number_of take_off
+unfolding state priced line_price number_of fields_of take_off
 shirts_cost = refl
 
 shirts_paid : to_pay (after shirts 0) ≡ Some (pos 24395, pos 24395)
-unfolding state priced line_price number_of fields_of chains.number_of take_off
+unfolding state priced line_price number_of fields_of take_off
 shirts_paid = refl
 
 shirts_taxed : taxes (after shirts 0) ≡ Some (tax 1900 24395 3895 ∷ [])
-unfolding state priced line_price number_of fields_of chains.number_of take_off
+unfolding state priced line_price number_of fields_of take_off
 shirts_taxed = refl
 
 -- a second round changes nothing
 shirts_settle : after shirts 1 ≡ after shirts 0
-unfolding state priced line_price number_of fields_of chains.number_of take_off
+unfolding state priced line_price number_of fields_of take_off
 shirts_settle = refl
 
 -- ---- a piece at 10000 that a rule from 10000 on makes one at 9000
@@ -107,15 +105,15 @@ abbrev swinging : List Row
 swinging = ruled 10000 (price_of 9000) (condition_of 10000) 1
 
 swings : goods_and_rules (after swinging 0) ≡ Some (pos 10000, 201 ∷ [])
-unfolding state priced line_price number_of fields_of chains.number_of take_off leaf_named holds
+unfolding state priced line_price number_of fields_of take_off leaf_named holds
 swings = refl
 
 swings_back : goods_and_rules (after swinging 1) ≡ Some (pos 9000, [])
-unfolding state priced line_price number_of fields_of chains.number_of take_off leaf_named holds
+unfolding state priced line_price number_of fields_of take_off leaf_named holds
 swings_back = refl
 
 swings_on : after swinging 2 ≡ after swinging 0
-unfolding state priced line_price number_of fields_of chains.number_of take_off leaf_named holds
+unfolding state priced line_price number_of fields_of take_off leaf_named holds
 swings_on = refl
 
 -- ---- rules that each raise the price to where the next one holds
@@ -125,24 +123,24 @@ rising n = ruled 1000 (λ i. price_of (1000 * (i + 1)) i) (λ i. condition_of (1
 
 -- with five of them the sixth round's cart is the seventh's
 five_rise : goods_and_rules (after (rising 5) 5) ≡ Some (pos 6000, 205 ∷ 204 ∷ 203 ∷ 202 ∷ 201 ∷ [])
-unfolding state priced line_price number_of fields_of chains.number_of take_off leaf_named holds
+unfolding state priced line_price number_of fields_of take_off leaf_named holds
 five_rise = refl
 
 five_not_before : goods_and_rules (after (rising 5) 4) ≡ Some (pos 5000, 205 ∷ 204 ∷ 203 ∷ 202 ∷ 201 ∷ [])
-unfolding state priced line_price number_of fields_of chains.number_of take_off leaf_named holds
+unfolding state priced line_price number_of fields_of take_off leaf_named holds
 five_not_before = refl
 
 five_settle : after (rising 5) 6 ≡ after (rising 5) 5
-unfolding state priced line_price number_of fields_of chains.number_of take_off leaf_named holds
+unfolding state priced line_price number_of fields_of take_off leaf_named holds
 five_settle = refl
 
 -- with six of them it isn't
 six_rise : goods_and_rules (after (rising 6) 5) ≡ Some (pos 6000, 206 ∷ 205 ∷ 204 ∷ 203 ∷ 202 ∷ 201 ∷ [])
-unfolding state priced line_price number_of fields_of chains.number_of take_off leaf_named holds
+unfolding state priced line_price number_of fields_of take_off leaf_named holds
 six_rise = refl
 
 six_rise_on : goods_and_rules (after (rising 6) 6) ≡ Some (pos 7000, 206 ∷ 205 ∷ 204 ∷ 203 ∷ 202 ∷ 201 ∷ [])
-unfolding state priced line_price number_of fields_of chains.number_of take_off leaf_named holds
+unfolding state priced line_price number_of fields_of take_off leaf_named holds
 six_rise_on = refl
 
 -- ---- net: three pieces at 333 with 19 %, one at 500 with 7 %, a tenth off, rounded to 5
@@ -161,19 +159,19 @@ net_cart mode =
     ∷ []
 
 vertical_taxed : taxes (after (net_cart (codes "vertical")) 0) ≡ Some (tax 700 450 32 ∷ tax 1900 899 171 ∷ [])
-unfolding state priced line_price number_of fields_of chains.number_of take_off
+unfolding state priced line_price number_of fields_of take_off
 vertical_taxed = refl
 
 vertical_paid : to_pay (after (net_cart (codes "vertical")) 0) ≡ Some (pos 1552, pos 1550)
-unfolding state priced line_price number_of fields_of chains.number_of take_off
+unfolding state priced line_price number_of fields_of take_off
 vertical_paid = refl
 
 horizontal_taxed : taxes (after (net_cart (codes "horizontal")) 0) ≡ Some (tax 700 450 31 ∷ tax 1900 899 171 ∷ [])
-unfolding state priced line_price number_of fields_of chains.number_of take_off
+unfolding state priced line_price number_of fields_of take_off
 horizontal_taxed = refl
 
 horizontal_paid : to_pay (after (net_cart (codes "horizontal")) 0) ≡ Some (pos 1551, pos 1550)
-unfolding state priced line_price number_of fields_of chains.number_of take_off
+unfolding state priced line_price number_of fields_of take_off
 horizontal_paid = refl
 
 abbrev blocks : Option State → Option (List Block)
@@ -181,5 +179,5 @@ blocks given = option_map (λ s. s.cart.blocks) given
 
 -- no delivery is named, and that stands in the way of an order
 no_method_blocks : blocks (after (net_cart (codes "horizontal")) 1) ≡ Some (record { cause = codes "no_method"; line = 64 } ∷ [])
-unfolding state priced line_price number_of fields_of chains.number_of take_off
+unfolding state priced line_price number_of fields_of take_off
 no_method_blocks = refl

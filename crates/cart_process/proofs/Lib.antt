@@ -4,3 +4,4 @@ pub mod Ranges
 pub mod Carts
 pub mod Assembled
 pub mod Shown
+pub mod Chosen

@@ -1,6 +1,7 @@
 pub mod Words
 pub mod Causes
 pub mod Units
+pub mod Choice
 pub mod Kept
 pub mod LinePrices
 pub mod Offers

@@ -1,6 +1,6 @@
 //! One round of a cart: its prices, discounts, delivery, taxes and total, by the rules that hold.
 //!
-//! Public is `process` alone, which makes a round's cart of lent rows. No other crate calls it yet.
+//! Public is `process` alone, which makes a round's cart of lent rows. `cart_loop` calls it.
 //!
 //! # What is promised
 //!
@@ -8,6 +8,8 @@
 //!   what keeps it from being ordered; what promotions take off the goods; the delivery, or what keeps
 //!   it from being ordered; what promotions take off that; the taxes of all positions; and the total.
 //!   Want of memory is its only error.
+//! - Which price row decides, in words (`choice`): no rule that holds has one, and none decides; or the
+//!   first that has one says which, of its rows for so many pieces the one from the most pieces on.
 //! - What is shown adds up (`sum`). The goods are the lines' totals together. Each discount is above 0,
 //!   there are at most 50 on the goods and as many on the delivery, and they come to no more than what
 //!   they are taken off. The tax is that of all rates. `raw` is what is left of the goods and of the

@@ -3,13 +3,16 @@ ghost use Rattle.std.specs.Prelude.{◌≡◌, ◌≤◌, ◌*◌, ◌^◌, IfOk
 ghost use Rattle.std.specs.Option.{option_copied};
 ghost use Rattle.shop_defs.specs.declared.entity.Entity.TheVariants as E;
 ghost use Rattle.row_fields.specs.Checked.{IsRowOf};
-ghost use Rattle.cart_price.specs.Lent.{cart_rows};
+ghost use Rattle.cart_price.specs.Lent.{LineRows, cart_rows};
 ghost use Rattle.cart_price.specs.Nearest.{is_interval};
 ghost use Rattle.cart_sums.specs.Taxes.{most};
+ghost use Rattle.cart_process.specs.Choice.{IsChoice};
 ghost use Rattle.cart_process.specs.Fitting.{GoodsFit, SendingFits};
 ghost use Rattle.cart_process.specs.Kept.{IsCartKept, ShippedFits};
+ghost use Rattle.cart_process.specs.LinePrices.{quantity_of};
 ghost use Rattle.cart_process.specs.Priced as spec;
 ghost use Rattle.cart_process.specs.Shown.{AddsUp, AreTaxesShown};
+ghost use Rattle.cart_process.specs.Units.{deciding};
 ghost use Rattle.cart_process.specs.Words as words;
 
 use crate::blocks::{blocks_of, lines_of};
@@ -39,6 +42,9 @@ pub fn process(
     ensures value { IfOk result (λ cart. cart ≡ spec.priced (cart_rows lent.now) moment rules.now) }
     // The numbers that are shown add up, and what is to be paid is no more than half an interval away.
     ensures sum { IfOk result (AddsUp (words.state_of lent.now.cart.now) (spec.interval_of lent.now.cart.now)) }
+    // The price row that decides is that of the first rule that has one, from the most pieces on of
+    // those for so many pieces.
+    ensures choice { IfOk result (λ _. (line : LineRows) → IsChoice rules.now (quantity_of line.line) line.prices (deciding rules.now (quantity_of line.line) line.prices)) }
     // Rates ascend, and each tax is within its amount.
     ensures taxes { IfOk result (λ cart. AreTaxesShown (words.state_of lent.now.cart.now) (words.mode_of lent.now.cart.now) cart.taxes) }
 {

@@ -1,22 +1,19 @@
 -- A row that is put in place of one that is found by the same topics.
-use Rattle.std.proofs.Common.{◌≡◌, Bool, true, false, ◌&&◌, ◌||◌, List, [], ◌∷◌, Option, Some, None, if◌then◌else◌, refl, sym, ap, ◌∙◌}
+use Rattle.std.proofs.Common.{◌≡◌, Bool, true, false, ◌&&◌, ◌||◌, List, [], ◌∷◌, Option, Some, None, refl, sym, ap, ◌∙◌}
 use Rattle.std.specs.Ordering.{is_eq}
 use Rattle.std.specs.List.{list_all}
-use Rattle.keyed.specs.Keyed.{put}
-use Rattle.keyed.proofs.Changes.{ascends_put, find_put}
 use Rattle.shop_defs.specs.declared.key.Key.{Key}
 use Rattle.shop_defs.specs.declared.row.Row.{Row}
 use Rattle.shop_defs.specs.declared.table.Reference.{Reference}
 use Rattle.shop_defs.specs.declared.table.TheConstants.{REFERENCES}
 use Rattle.shop_defs.specs.Keys.{key_cmp}
-use Rattle.shop_defs.specs.Rows.{row_key, row_at}
 use Rattle.shop_defs.proofs.Keys.{key_cmp_total}
 use Rattle.shop_rows.specs.declared.topic.Topic.{Topic}
 use Rattle.shop_rows.specs.declared.topic.Mention.{Mention}
 use Rattle.shop_rows.specs.Topics.{has_topic, mention_cmp}
-use Rattle.shop_rows.specs.Mentions.{is_found, AreMentioned, topic_by, print_topic, same_topic, have_same_topics}
-use Rattle.shop_rows.proofs.Mentioning.{marks, any_marks, row_marks, row_marks_topics, found_key}
-use Rattle.shop_rows.proofs.Same.{key_is, topic_is, is_equal, itself_equal}
+use Rattle.shop_rows.specs.Mentions.{topic_by, print_topic, same_topic, have_same_topics}
+use Rattle.shop_rows.proofs.Mentioning.{marks, any_marks, row_marks, row_marks_topics}
+use Rattle.shop_rows.proofs.Same.{topic_is, is_equal, itself_equal}
 
 and_first : (a b : Bool) → (a && b) ≡ true → a ≡ true
 and_first true b e = refl

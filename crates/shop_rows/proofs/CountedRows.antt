@@ -1,10 +1,10 @@
 -- How many rows there are, as a row is put or taken out.
-use Rattle.std.proofs.Common.{◌≡◌, ℕ, suc, ◌+◌, ◌-◌, ◌<◌, ◌^◌, Bool, true, false, cond, ◌==◌, List, [], ◌∷◌, ◌++◌, length, count_by, get_or, set, take, map, Option, Some, None, is_some, if◌then◌else◌, refl, sym, ap, subst, ◌∙◌, arith}
+use Rattle.std.proofs.Common.{◌≡◌, ℕ, ◌+◌, ◌-◌, ◌<◌, ◌^◌, Bool, true, false, cond, ◌==◌, List, [], ◌∷◌, length, count_by, get_or, set, Option, Some, None, is_some, if◌then◌else◌, refl, sym, ap, ◌∙◌, arith}
 use Rattle.std.specs.declared.cmp.Ordering.{Ordering}
 use Rattle.std.specs.declared.cmp.Ordering.TheVariants.{Less, Equal, Greater}
 use Rattle.std.specs.Cmp.{IsTotalOrder}
 use Rattle.std.specs.Ordering.{is_eq, match_ordering, ordering_reverse}
-use Rattle.std.specs.List.{AllByRecursion, fold}
+use Rattle.std.specs.List.{AllByRecursion}
 use Rattle.std.proofs.lemmas.Bool.{eq-eqb}
 use Rattle.std.proofs.lemmas.List.Sums.{sum_by-cons}
 use Rattle.std.proofs.lemmas.List.{get_or-set_same, get_or-set_other, length-set}
@@ -16,16 +16,14 @@ use Rattle.shop_defs.specs.declared.key.Key.{Key}
 use Rattle.shop_defs.specs.declared.row.Row.{Row}
 use Rattle.shop_defs.specs.Entities.{entity_number}
 use Rattle.shop_defs.specs.Keys.{key_cmp}
-use Rattle.shop_defs.specs.Rows.{row_key, row_at, change_row, change_rows, IsInKeyOrder}
-use Rattle.shop_defs.specs.Joined.{Change, change_key, last_in}
+use Rattle.shop_defs.specs.Rows.{row_key, row_at, change_row, IsInKeyOrder}
+use Rattle.shop_defs.specs.Joined.{Change}
 use Rattle.shop_defs.proofs.Keys.{key_cmp_total}
 use Rattle.shop_operations.specs.References.{is_entity}
-use Rattle.shop_rows.specs.Changing.{row_after, StandsUnderItsKey, StandUnderTheirKeys, HasAscendingKeys}
+use Rattle.shop_rows.specs.Changing.{StandsUnderItsKey}
 use Rattle.shop_rows.specs.Counting.{one, AreCounted}
 use Rattle.shop_rows.specs.Lookups.{count_rows}
-use Rattle.shop_rows.proofs.ChangedRows.{in_order-change_rows, row_at-change_rows}
 use Rattle.shop_rows.proofs.Mentioning.{found_key}
-use Rattle.shop_rows.proofs.Same.{key_is}
 
 -- 1 where an element is there and passes
 abbrev weight : {X : Type 0} → (X → Bool) → Option X → ℕ

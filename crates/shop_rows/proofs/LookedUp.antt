@@ -32,7 +32,7 @@ use Rattle.shop_rows.specs.Lookups.{child_keys, count_children, keys_of, first_a
 use Rattle.shop_rows.specs.Mentions.{AreMentioned, rows_of}
 use Rattle.shop_rows.specs.Owners.{belongs, count_owned}
 use Rattle.shop_rows.specs.Paging.{IsUnderItsKey}
-use Rattle.shop_rows.specs.Prints.{print_in, print_of}
+use Rattle.shop_rows.specs.Prints.{print_in}
 use Rattle.shop_rows.specs.Searches.{from_key, from_entity_of, from_live_id, from_topic, from_topic_of, is_from, passes, is_version_twin, is_live_of}
 use Rattle.shop_rows.specs.Topics.{has_topic}
 use Rattle.shop_rows.proofs.Fronts.{keys_passing as pairs_passing}

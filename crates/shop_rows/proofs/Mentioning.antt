@@ -1,5 +1,5 @@
 -- Which mentions are of a row.
-use Rattle.std.proofs.Common.{◌≡◌, ℕ, Bool, true, false, not, cond, ◌==◌, ◌&&◌, ◌||◌, List, [], ◌∷◌, Option, Some, None, is_some, if◌then◌else◌, refl, sym, ap, ◌∙◌}
+use Rattle.std.proofs.Common.{◌≡◌, ℕ, Bool, true, false, cond, ◌==◌, ◌&&◌, ◌||◌, List, [], ◌∷◌, Option, Some, None, refl, sym, ap, ◌∙◌}
 use Rattle.std.specs.declared.cmp.Ordering.{Ordering}
 use Rattle.std.specs.declared.cmp.Ordering.TheVariants.{Less, Equal, Greater}
 use Rattle.std.specs.Ordering.{is_eq, nat_cmp, ordering_then}
@@ -14,15 +14,14 @@ use Rattle.shop_defs.specs.Entities.{entity_number}
 use Rattle.shop_defs.specs.Keys.{key_cmp}
 use Rattle.shop_defs.specs.References.{acts_on_delete}
 use Rattle.shop_defs.specs.Rows.{row_key, row_at}
-use Rattle.shop_defs.proofs.Keys.{key_cmp_total}
 use Rattle.shop_operations.specs.References.{named, is_id, refers_at}
 use Rattle.shop_rows.specs.declared.topic.Topic.{Topic}
 use Rattle.shop_rows.specs.declared.topic.Topic.TheVariants as T
 use Rattle.shop_rows.specs.declared.topic.Mention.{Mention}
 use Rattle.shop_rows.specs.Prints.{print_of}
-use Rattle.shop_rows.specs.Topics.{has_topic, is_of_row, topic_cmp, mention_cmp}
+use Rattle.shop_rows.specs.Topics.{is_of_row, topic_cmp, mention_cmp}
 use Rattle.shop_rows.specs.Mentions.{topic_by, print_topic}
-use Rattle.shop_rows.proofs.Same.{is_eq-nat_cmp, is_eq-then, is_equal, key_is, mention_cmp_total}
+use Rattle.shop_rows.proofs.Same.{is_eq-nat_cmp, is_eq-then, key_is}
 
 -- ---- one mention
 

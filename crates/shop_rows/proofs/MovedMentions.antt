@@ -3,7 +3,7 @@ use Rattle.std.proofs.Common.{◌≡◌, Bool, true, false, not, ◌&&◌, ◌||
 use Rattle.std.specs.declared.cmp.Ordering.{Ordering}
 use Rattle.std.specs.declared.cmp.Ordering.TheVariants.{Less, Equal, Greater}
 use Rattle.std.specs.Ordering.{is_eq}
-use Rattle.std.specs.List.{AllByRecursion, fold, list_any, flat_map}
+use Rattle.std.specs.List.{AllByRecursion, fold, flat_map}
 use Rattle.std.proofs.lemmas.List.Folds.{list_any-append}
 use Rattle.keyed.specs.Keyed.{Ascends, find, put, without}
 use Rattle.keyed.proofs.Changes.{ascends_put, ascends_without, find_put, find_without}
@@ -12,14 +12,14 @@ use Rattle.paged.specs.Changed.{changed, changed_at}
 use Rattle.shop_defs.specs.declared.key.Key.{Key}
 use Rattle.shop_defs.specs.declared.row.Row.{Row}
 use Rattle.shop_defs.specs.Keys.{key_cmp}
-use Rattle.shop_defs.specs.Rows.{row_at, change_rows, IsInKeyOrder}
+use Rattle.shop_defs.specs.Rows.{row_at, change_rows}
 use Rattle.shop_defs.specs.Joined.{Change, change_key, change_at}
 use Rattle.shop_defs.proofs.Keys.{key_cmp_total}
 use Rattle.shop_rows.specs.Changing.{row_after, StandsUnderItsKey, StandUnderTheirKeys, HasAscendingKeys}
 use Rattle.shop_rows.specs.declared.topic.Topic.{Topic}
 use Rattle.shop_rows.specs.declared.topic.Mention.{Mention}
 use Rattle.shop_rows.specs.Topics.{has_topic, mention_cmp}
-use Rattle.shop_rows.specs.Mentions.{itself, has, among, is_found, AreMentioned, have_same_topics, are_alike, found_mentions, gone_at, come_at}
+use Rattle.shop_rows.specs.Mentions.{itself, has, among, is_found, AreMentioned, are_alike, found_mentions, gone_at, come_at}
 use Rattle.shop_rows.proofs.Alike.{topics_alike}
 use Rattle.shop_rows.proofs.BuiltMentions.{among-row}
 use Rattle.shop_rows.proofs.ChangedRows.{in_order-change_rows, row_at-change_rows, last_in-ascending}

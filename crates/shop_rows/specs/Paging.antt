@@ -1,5 +1,5 @@
 -- Rows in pages, with what they are found by. No public contract cites this.
-use Rattle.std.specs.Prelude.{◌≡◌, ℕ, List, [], map, Option, Some, None}
+use Rattle.std.specs.Prelude.{◌≡◌, List, [], map, Option, Some, None}
 use Rattle.std.specs.List.{AllByRecursion, fold}
 use Rattle.std.specs.Option.{option_map}
 use Rattle.std.specs.declared.sync.Arc.{Arc}
@@ -10,7 +10,6 @@ use Rattle.paged.specs.Paged.{all_pairs}
 use Rattle.shop_defs.specs.declared.key.Key.{Key}
 use Rattle.shop_defs.specs.declared.row.Row.{Row}
 use Rattle.shop_defs.specs.Keys.{key_cmp}
-use Rattle.shop_defs.specs.Rows.{change_rows}
 use Rattle.shop_defs.specs.Joined.{Change, change_key}
 use Rattle.shop_rows.specs.declared.counts.Counts.{Counts}
 use Rattle.shop_rows.specs.declared.topic.Mention.{Mention}

@@ -16,9 +16,8 @@
 //!   (`PlansBatch`, over `live_batch`): the changes make the live rows what the operations leave,
 //!   and leave the rows of drafts; their keys are live and ascend, and each row stands under its
 //!   key.
-//! - Both say in words what their changes leave (`PlanLeaves`, `BatchPlanLeaves`, over `Leaves` of
-//!   `shop_operations`), so a definition that ignores what is given, or empties what it needn't,
-//!   would be refused too.
+//! - `plan_op` and `plan` say in words, too, what their changes leave (`PlanLeaves`,
+//!   `BatchPlanLeaves`, over `Leaves` of `shop_operations`).
 //! - `shop_core` calls `plan`; the others are there for drafts and merges. That nothing walks over
 //!   all rows is how it is written; no clause speaks of it.
 #![tactic(auto)]

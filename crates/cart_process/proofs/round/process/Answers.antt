@@ -1,9 +1,11 @@
 use Rattle.std.proofs.Common.{◌≡◌, ◌∙◌, sym, subst}
 use Rattle.std.proofs.lemmas.Int.{to_z-of_z}
 use Rattle.cart_price.specs.Lent.{cart_rows}
+use Rattle.cart_process.specs.LinePrices.{quantity_of}
 use Rattle.cart_process.specs.Priced as spec
 use Rattle.cart_process.specs.Shown.{AddsUp}
 use Rattle.cart_process.proofs.Assembled.{assembled}
+use Rattle.cart_process.proofs.Chosen.{is_choice}
 use Rattle.cart_process.proofs.Shown.{adds-up, interval-kept}
 use Rattle.cart_process.proofs.round.process.Goals as goal
 
@@ -28,6 +30,9 @@ returns-clause-sum c =
     goods sending lines c.in_ok-goods.ensures.fit c.in_ok-sending.ensures.fits c.in_ok-taxes.ensures.shown.each (interval-kept rows.cart c.requires.cart) c.in_ok-taxes.ensures.amounts in
     subst (λ state. AddsUp state (spec.interval_of rows.cart) c.cart_of.result) c.state_of-state.ensures
     (subst (λ cart. AddsUp c.state_of-state.result (spec.interval_of rows.cart) cart) (sym c.cart_of.ensures) up)
+
+pub returns-clause-choice : goal.returns-clause-choice
+returns-clause-choice c = λ line. is_choice c.args.rules.now (quantity_of line.line) line.prices
 
 pub returns-clause-taxes : goal.returns-clause-taxes
 returns-clause-taxes c =

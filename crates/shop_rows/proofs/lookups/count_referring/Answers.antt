@@ -1,4 +1,4 @@
-use Rattle.std.proofs.Common.{sym, ap, ◌∙◌, arith}
+use Rattle.std.proofs.Common.{sym, ◌∙◌, arith}
 use Rattle.shop_rows.specs.Paging.{rows_in, mentions_in}
 use Rattle.shop_rows.proofs.LookedUp.{owned_of, owned_in, found_few}
 use Rattle.shop_rows.proofs.lookups.count_referring.Goals as goal

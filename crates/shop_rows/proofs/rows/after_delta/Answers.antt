@@ -1,7 +1,6 @@
-use Rattle.std.proofs.Common.{◌≡◌, map, sym, ap, subst, ◌∙◌}
+use Rattle.std.proofs.Common.{map, ap, ◌∙◌}
 use Rattle.shop_defs.specs.Rows.{change_rows}
-use Rattle.shop_rows.specs.Changing.{StandUnderTheirKeys}
-use Rattle.shop_rows.specs.Paging.{rows_in, read_change, settled}
+use Rattle.shop_rows.specs.Paging.{rows_in, read_change}
 use Rattle.shop_rows.proofs.InPages.{settled_stand, settled_same}
 use Rattle.shop_rows.proofs.rows.after_delta.Goals as goal
 

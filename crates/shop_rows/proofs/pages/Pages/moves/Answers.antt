@@ -1,4 +1,3 @@
-use Rattle.std.proofs.Common.{sym, ◌∙◌}
 use Rattle.shop_rows.specs.Mentions.{gone_at, come_at}
 use Rattle.shop_rows.specs.Paging.{rows_in}
 use Rattle.shop_rows.proofs.Moving.{moved_next, counted_next}

@@ -1,4 +1,4 @@
-use Rattle.std.proofs.Common.{drop, map, sym, ap, ◌∙◌}
+use Rattle.std.proofs.Common.{drop, map, ap, ◌∙◌}
 use Rattle.paged.specs.Pairs.{value_of}
 use Rattle.paged.specs.Paged.{all_pairs}
 use Rattle.shop_rows.specs.Held.{Held}

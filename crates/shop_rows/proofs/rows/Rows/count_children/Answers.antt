@@ -1,4 +1,4 @@
-use Rattle.std.proofs.Common.{sym, ap, ◌∙◌, arith}
+use Rattle.std.proofs.Common.{ap, ◌∙◌, arith}
 use Rattle.shop_rows.specs.Held.{Held}
 use Rattle.shop_rows.specs.Paging.{rows_in, mentions_in}
 use Rattle.shop_rows.proofs.LookedUp.{children_counted, found_few}

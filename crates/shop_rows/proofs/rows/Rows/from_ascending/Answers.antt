@@ -1,6 +1,6 @@
-use Rattle.std.proofs.Common.{◌≡◌, [], map, sym, ap, subst, ◌∙◌}
+use Rattle.std.proofs.Common.{[], map, ap, ◌∙◌}
 use Rattle.shop_defs.specs.Rows.{change_rows}
-use Rattle.shop_rows.specs.Paging.{rows_in, read_change, put_in}
+use Rattle.shop_rows.specs.Paging.{rows_in, read_change}
 use Rattle.shop_rows.proofs.InPages.{putting_ascends, putting_stand, put_all}
 use Rattle.shop_rows.proofs.rows.Rows.from_ascending.Goals as goal
 

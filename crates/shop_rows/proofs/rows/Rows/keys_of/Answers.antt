@@ -1,7 +1,6 @@
-use Rattle.std.proofs.Common.{sym, ap, ◌∙◌}
-use Rattle.paged.specs.Paged.{all_pairs}
+use Rattle.std.proofs.Common.{ap, ◌∙◌}
 use Rattle.shop_rows.specs.Held.{Held}
-use Rattle.shop_rows.specs.Paging.{rows_in, mentions_in}
+use Rattle.shop_rows.specs.Paging.{rows_in}
 use Rattle.shop_rows.proofs.LookedUp.{entity_keys_of}
 use Rattle.shop_rows.proofs.rows.Rows.keys_of.Goals as goal
 

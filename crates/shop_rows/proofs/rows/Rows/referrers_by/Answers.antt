@@ -1,5 +1,4 @@
-use Rattle.std.proofs.Common.{sym, ap, ◌∙◌}
-use Rattle.paged.specs.Paged.{all_pairs}
+use Rattle.std.proofs.Common.{ap, ◌∙◌}
 use Rattle.shop_rows.specs.Held.{Held}
 use Rattle.shop_rows.specs.Paging.{rows_in, mentions_in}
 use Rattle.shop_rows.proofs.LookedUp.{referrers_by_of}
