@@ -18,7 +18,8 @@ use Rattle.shop_operations.specs.References.{is_entity, is_live, live}
 use denote.Ref.{Bor}
 use Rattle.cart_price.specs.Lent.{lent_rows}
 use Rattle.shop_rows.specs.Lookups.{first_above}
-use Rattle.shop_rows.proofs.Same.{entity_is, itself_equal, key_is}
+use Rattle.shop_defs.proofs.EachLine.{same_entity}
+use Rattle.shop_rows.proofs.Same.{itself_equal, key_is}
 use Rattle.cart_collect.specs.Finding.{live_key, live_of}
 use Rattle.cart_collect.specs.Looking.{is_beside, if_beside, next_beside}
 
@@ -188,7 +189,7 @@ module _ (entity : Entity) where
   row_from : (row : Row) → is_beside row.key (live_key entity 0) ≡ true → IsFrom row.key
   row_from row so =
       let two = both (is_entity row.key.entity entity) (row.key.version == 0) so in
-      record { of = entity_is row.key.entity entity (eqb-true (entity_number row.key.entity) (entity_number entity) two.0); live = eqb-true row.key.version 0 two.1 }
+      record { of = same_entity row.key.entity entity (eqb-true (entity_number row.key.entity) (entity_number entity) two.0); live = eqb-true row.key.version 0 two.1 }
 
   pub goes_on : (rows : List Row) (at : Key) (row : Row) → IsInKeyOrder rows → IsFrom at → next_beside rows at ≡ Some row → GoesOn rows at row
   goes_on rows at row up from found = by (behind at rows) refl

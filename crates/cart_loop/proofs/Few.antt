@@ -21,7 +21,7 @@ use Rattle.shop_operations.specs.References.{ident, is_entity, is_id, live}
 use Rattle.shop_operations.specs.Soundness.{IsCoherent}
 use Rattle.shop_operations.specs.Upserts.{is_of_owner, owner_is_full}
 use Rattle.shop_operations.specs.Views.{live_view}
-use Rattle.shop_rows.proofs.Same.{entity_is}
+use Rattle.shop_defs.proofs.EachLine.{same_entity}
 use Rattle.cart_collect.specs.Finding.{naming}
 use Rattle.cart_collect.proofs.FieldNumbers.{line_cart}
 use Rattle.cart_loop.specs.Checked.{AreCartRows}
@@ -62,7 +62,7 @@ line_of_cart cart row e = by (is_entity row.key.entity E.CartLine) refl
     by true f =
         let named : is_id (id_at row (number_of E.CartLine N.Cart)) cart ≡ true = rw f at e in
         record {
-          entity = entity_is row.key.entity E.CartLine (eqb-true (entity_number row.key.entity) (entity_number E.CartLine) f);
+          entity = same_entity row.key.entity E.CartLine (eqb-true (entity_number row.key.entity) (entity_number E.CartLine) f);
           owner = ident_is (field_of row 1) ∙ (ap (λ (n : ℕ). id_at row n) (sym line_cart) ∙ id_is (id_at row (number_of E.CartLine N.Cart)) cart named);
         }
     by false f = let never : false ≡ true = rw f at e in absurd (cc)

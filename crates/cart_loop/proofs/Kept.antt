@@ -14,7 +14,8 @@ use Rattle.shop_defs.specs.Entities.{entity_number}
 use Rattle.shop_defs.specs.Keys.{key_cmp}
 use Rattle.shop_defs.specs.Rows.{row_at}
 use Rattle.shop_operations.specs.References.{is_entity, is_id, is_live}
-use Rattle.shop_rows.proofs.Same.{entity_is, is_equal, key_is}
+use Rattle.shop_defs.proofs.EachLine.{same_entity}
+use Rattle.shop_rows.proofs.Same.{is_equal, key_is}
 use Rattle.row_fields.specs.Checked.{IsRowOf}
 use Rattle.row_fields.specs.Fields.{number_of, id_at}
 use Rattle.cart_price.specs.Lent.{CartRows, LineRows}
@@ -58,7 +59,7 @@ all_of entity test (row ∷ rows) all = by (all_of entity test rows all.1) (is_e
   where
     by : AllByRecursion (IsRowOf entity) (filter (λ other. is_entity other.key.entity entity && test other) rows) → (b c : Bool) → is_entity row.key.entity entity ≡ b → test row ≡ c
         → AllByRecursion (IsRowOf entity) (filter (λ other. is_entity other.key.entity entity && test other) (row ∷ rows))
-    by more true true e f = rw (e, f) (of_entity entity row all.0 (entity_is row.key.entity entity (eqb-true (entity_number row.key.entity) (entity_number entity) e)), more)
+    by more true true e f = rw (e, f) (of_entity entity row all.0 (same_entity row.key.entity entity (eqb-true (entity_number row.key.entity) (entity_number entity) e)), more)
     by more true false e f = rw (e, f) more
     by more false c e f = rw e more
 

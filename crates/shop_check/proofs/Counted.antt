@@ -125,6 +125,10 @@ none_more_up rows row most count is few =
     count_under (λ other. is_up row other && is_entity row.key.entity other.key.entity) (λ other. is_entity row.key.entity other.key.entity) rows (λ x i h. (and_parts (is_up row x) (is_entity row.key.entity x.key.entity) h).1) in
     not_more true most (count_rows (up_to rows row) row.key.entity) (omega (arith, less, entity_up rows row, is))
 
+-- so whether it has more up to a row is told by how many it has
+pub same_more_up : (rows : List Row) (row : Row) (most count : ℕ) → count ≡ count_rows rows row.key.entity → count ≤ most → nat_lt most count ≡ nat_lt most (count_rows (up_to rows row) row.key.entity)
+same_more_up rows row most count is few = sym (not_more true most count few) ∙ none_more_up rows row most count is few
+
 -- an owner that isn't over the limit isn't so up to a row
 pub owner_not_full : (rows : List Row) (row : Row) (limit : OwnerLimit) (owner : ℕ) → part_of limit.owner row ≡ Some owner → count_owned limit (live rows) owner ≤ limit.most → false ≡ owner_is_full (live (up_to rows row)) row limit
 owner_not_full rows row limit owner e few =

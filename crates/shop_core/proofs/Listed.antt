@@ -1,57 +1,24 @@
 -- The live rows of an entity above a place stand together, right behind the place.
-use Rattle.std.proofs.Common.{◌≡◌, ℕ, zero, suc, ◌+◌, ◌<◌, ◌≤◌, Bool, true, false, ◌&&◌, List, [], ◌∷◌, length, get_or, take, drop, filter, refl, sym, ap, ◌∙◌, ◌⊎◌, inl, inr, arith, nat_eq}
+use Rattle.std.proofs.Common.{◌≡◌, ℕ, zero, suc, ◌<◌, ◌≤◌, Bool, true, false, ◌&&◌, List, [], ◌∷◌, ◌++◌, length, take, filter, refl, sym, ap, ◌∙◌, arith, nat_eq, cond}
 use Rattle.std.specs.declared.cmp.Ordering.{Ordering}
 use Rattle.std.specs.declared.cmp.Ordering.TheVariants.{Less, Equal, Greater}
 use Rattle.std.specs.Cmp.{ranks}
-use Rattle.std.specs.Ordering.{MatchOrdering, nat_cmp, ordering_then, ordering_reverse, is_lt, is_le, is_gt}
-use Rattle.std.specs.List.Sorted.{IsPartitionedBy, IsPartitionPoint}
+use Rattle.std.specs.List.{AllByRecursion, take_while}
+use Rattle.std.specs.Ordering.{MatchOrdering, nat_cmp, ordering_then, ordering_reverse, is_lt, is_gt}
 use Rattle.std.proofs.lemmas.Bool.{eqb-true, eq-eqb}
-use Rattle.std.proofs.lemmas.List.{length-drop, length-take, get_or-drop, get_or-take}
-use Rattle.keyed.proofs.Places.{less_by_place}
+use Rattle.std.proofs.lemmas.List.{append-nil, append_assoc, length-append, take-append-le}
+use Rattle.std.proofs.lemmas.List.Sums.{take_while-cons}
 use Rattle.shop_defs.specs.declared.entity.Entity.{Entity}
 use Rattle.shop_defs.specs.declared.key.Key.{Key}
 use Rattle.shop_defs.specs.declared.row.Row.{Row}
 use Rattle.shop_defs.specs.Entities.{entity_number}
 use Rattle.shop_defs.specs.Keys.{key_cmp}
-use Rattle.shop_defs.specs.Rows.{row_key, IsInKeyOrder}
+use Rattle.shop_defs.specs.Rows.{IsInKeyOrder}
 use Rattle.shop_defs.proofs.Keys.{key_cmp_total}
 use Rattle.shop_operations.specs.References.{is_entity, is_live}
 use Rattle.shop_rows.specs.Searches.{from_key}
-use Rattle.shop_rows.proofs.Lists.{filter-filter}
-use Rattle.shop_rows.proofs.Runs.{take_is_filter, drop_is_filter}
-use Rattle.shop_core.specs.Requests.{is_listed}
-
--- ---- lists whose front passes a test
-
-module _ {X : Type 0} (p : X → Bool) where
-  -- of a list whose front passes, what passes of the first k are the first k that pass
-  pub first_passing : (xs : List X) (k : ℕ) → IsPartitionedBy p xs → filter p (take k xs) ≡ take k (filter p xs)
-  first_passing [] zero parted = refl
-  first_passing [] (suc k) parted = refl
-  first_passing (x ∷ xs) zero parted = refl
-  first_passing (x ∷ xs) (suc k) parted = by (first_passing xs k (λ i j d l r e. parted (suc i) (suc j) d (omega arith) (omega arith) e)) (p x) refl
-    where
-      fails : (q : Bool) → (q ≡ true → p x ≡ true) → p x ≡ false → q ≡ false
-      fails true back e = absurd (let there = back refl in cc)
-      fails false back e = refl
-
-      none : p x ≡ false → [] ≡ filter p xs
-      none e = take_is_filter p xs 0 (λ i d l r. absurd (omega arith)) (λ i d l r. fails (p (get_or xs i d)) (λ passes. parted 0 (suc i) d (omega arith) (omega arith) passes) e)
-
-      none_of_front : p x ≡ false → [] ≡ filter p (take k xs)
-      none_of_front e =
-          take_is_filter p (take k xs) 0 (λ i d l r. absurd (omega arith))
-          (λ i d l r. let front : i < k = omega (arith, length-take k xs) in rw (get_or-take k xs i d front) (fails (p (get_or xs i d)) (λ passes. parted 0 (suc i) d (omega arith) (omega (arith, length-take k xs)) passes) e))
-
-      by : filter p (take k xs) ≡ take k (filter p xs) → (b : Bool) → p x ≡ b → filter p (take (suc k) (x ∷ xs)) ≡ take (suc k) (filter p (x ∷ xs))
-      by more true e = rw e (ap (λ (ys : List X). x ∷ ys) more)
-      by more false e = rw (e, ← none e, ← none_of_front e) refl
-
-  pub parted_take : (xs : List X) (k : ℕ) → IsPartitionedBy p xs → IsPartitionedBy p (take k xs)
-  parted_take xs k parted i j d l r e =
-      let at_j : j < k = omega (arith, length-take k xs) in
-      let at_i : i < k = omega arith in
-      rw (get_or-take k xs i d at_i) (parted i j d l (omega (arith, length-take k xs)) (rw (get_or-take k xs j d at_j) at e))
+use Rattle.shop_core.specs.Requests.{is_listed, most_listed}
+use Rattle.shop_core.specs.Seeing.{is_of}
 
 -- ---- the order of keys
 
@@ -70,10 +37,6 @@ then_rest m n rest same = by (nat_cmp m n) (ranks m n)
     by Less h = absurd (omega arith)
     by Equal h = refl
     by Greater h = absurd (omega arith)
-
--- the row is a live one of the entity
-abbrev pub is_of : Entity → Row → Bool
-is_of entity row = nat_eq (entity_number row.key.entity) (entity_number entity) && nat_eq row.key.version 0
 
 -- the place that is asked for
 abbrev pub place_of : Entity → ℕ → ℕ → Key
@@ -106,52 +69,25 @@ between entity id second a b above below of_b =
     let live_a : a.key.version ≡ 0 = omega arith in
     both (nat_eq e1 e0) (nat_eq a.key.version 0) (eq-eqb e1 e0 same_a) (eq-eqb a.key.version 0 live_a)
 
-less_from : (o : Ordering) → is_le o ≡ false → ordering_reverse o ≡ Less
-less_from Less e = absurd (cc)
-less_from Equal e = absurd (cc)
-less_from Greater e = refl
-
 lt_reversed : (o : Ordering) → is_lt (ordering_reverse o) ≡ is_gt o
 lt_reversed Less = refl
 lt_reversed Equal = refl
 lt_reversed Greater = refl
 
-not_above : (o : Ordering) → is_le o ≡ true → is_gt o ≡ false
-not_above Less e = refl
-not_above Equal e = refl
-not_above Greater e = absurd (cc)
-
-is_above : (o : Ordering) → is_le o ≡ false → is_gt o ≡ true
-is_above Less e = absurd (cc)
-is_above Equal e = absurd (cc)
-is_above Greater e = refl
+less_reversed : (o : Ordering) → is_gt o ≡ true → ordering_reverse o ≡ Less
+less_reversed Less e = absurd (cc)
+less_reversed Equal e = absurd (cc)
+less_reversed Greater e = refl
 
 -- ---- the rows that are listed
 
-module _ (rows : List Row) (entity : Entity) (id second start : ℕ) where
+module _ (entity : Entity) (id second : ℕ) where
   abbrev place : Key
   place = place_of entity id second
 
-  abbrev Starts : Type 0
-  Starts = IsPartitionPoint (λ row. is_le (from_key place row) ≡ true) (λ row. is_le (from_key place row) ≡ false) rows start
-
-  -- behind the start, the live rows of the entity come first
-  pub parted_behind : IsInKeyOrder rows → Starts → IsPartitionedBy (is_of entity) (drop start rows)
-  parted_behind order starts i j d l r e =
-      rw (get_or-drop start rows i d) (by (at_or_below i j l))
-    where
-      at_or_below : (m n : ℕ) → m ≤ n → (m < n) ⊎ (m ≡ n)
-      at_or_below m n h = grind arith
-
-      above : (k : ℕ) → k < length (drop start rows) → key_cmp place (row_key (get_or rows (start + k) d)) ≡ Less
-      above k h = key_cmp_total.antisymm place (row_key (get_or rows (start + k) d)) ∙ less_from (key_cmp (row_key (get_or rows (start + k) d)) place) (starts.1 (start + k) d (omega arith) (omega (arith, length-drop start rows)))
-
-      by : (i < j) ⊎ (i ≡ j) → is_of entity (get_or rows (start + i) d) ≡ true
-      by (inl less) =
-          between entity id second (get_or rows (start + i) d) (get_or rows (start + j) d) (above i (omega arith))
-          (less_by_place key_cmp row_key rows (start + i) (start + j) d order (omega arith) (omega (arith, length-drop start rows)))
-          (rw (get_or-drop start rows j d) at e)
-      by (inr same) = rw same (rw (get_or-drop start rows j d) at e)
+  -- the row is above the place
+  abbrev above : Row → Bool
+  above row = is_gt (from_key place row)
 
   flip : (a b : ℕ) → nat_eq a b ≡ nat_eq b a
   flip a b = by (nat_eq a b) (nat_eq b a) (λ e. eq-eqb _ _ (sym (eqb-true _ _ e))) (λ e. eq-eqb _ _ (sym (eqb-true _ _ e)))
@@ -170,23 +106,79 @@ module _ (rows : List Row) (entity : Entity) (id second start : ℕ) where
   turn false b false = refl
 
   -- a row is listed where it is above the place, and a live one of the entity
-  listed_is : (row : Row) → (is_gt (from_key place row) && is_of entity row) ≡ is_listed entity id second row
+  listed_is : (row : Row) → (above row && is_of entity row) ≡ is_listed entity id second row
   listed_is row =
-      ap (λ (same : Bool). is_gt (from_key place row) && (same && nat_eq row.key.version 0)) (flip (entity_number row.key.entity) (entity_number entity))
-      ∙ (turn (is_entity entity row.key.entity) (is_live row) (is_gt (from_key place row))
-      ∙ ap (λ (above : Bool). (is_entity entity row.key.entity && is_live row) && above) (sym (lt_reversed (key_cmp row.key place)) ∙ ap is_lt (sym (key_cmp_total.antisymm place row.key))))
+      ap (λ (same : Bool). above row && (same && nat_eq row.key.version 0)) (flip (entity_number row.key.entity) (entity_number entity))
+      ∙ (turn (is_entity entity row.key.entity) (is_live row) (above row)
+      ∙ ap (λ (is_above : Bool). (is_entity entity row.key.entity && is_live row) && is_above) (sym (lt_reversed (key_cmp row.key place)) ∙ ap is_lt (sym (key_cmp_total.antisymm place row.key))))
 
-  -- the live rows of the entity behind the start are those above the place
-  pub behind_is : Starts → filter (is_of entity) (drop start rows) ≡ filter (is_listed entity id second) rows
-  behind_is starts =
-      ap (filter (is_of entity)) (drop_is_filter (λ row. is_gt (from_key place row)) rows start (λ k d l r. not_above _ (starts.0 k d (omega arith) l)) (λ k d l r. is_above _ (starts.1 k d l r)))
-      ∙ (filter-filter (is_of entity) (λ row. is_gt (from_key place row)) rows
-      ∙ ap (λ (test : Row → Bool). filter test rows) (λ i row. listed_is row i))
+  -- above a row that is above the place and no live one of the entity, none is listed
+  none_listed : (x : Row) → above x ≡ true → is_of entity x ≡ false → (ys : List Row) → AllByRecursion (λ y. key_cmp x.key y.key ≡ Less) ys → filter (is_listed entity id second) ys ≡ []
+  none_listed x is_above other [] less = refl
+  none_listed x is_above other (y ∷ ys) less = by (none_listed x is_above other ys less.1) (is_listed entity id second y) refl
+    where
+      by : filter (is_listed entity id second) ys ≡ [] → (b : Bool) → is_listed entity id second y ≡ b → filter (is_listed entity id second) (y ∷ ys) ≡ []
+      by none true e =
+          let of_y : is_of entity y ≡ true = right (above y) (is_of entity y) (listed_is y ∙ e) in
+          let of_x : is_of entity x ≡ true = between entity id second x y (key_cmp_total.antisymm place x.key ∙ less_reversed (key_cmp x.key place) is_above) less.0 of_y in
+          absurd (cc)
+      by none false e = rw e none
 
-  -- the first so many behind the start, up to the last live one of the entity, are those that are listed
-  pub front_is : (most n : ℕ) → IsInKeyOrder rows → Starts → IsPartitionPoint (λ row. is_of entity row ≡ true) (λ row. is_of entity row ≡ false) (take most (drop start rows)) n
-      → take n (take most (drop start rows)) ≡ take most (filter (is_listed entity id second) rows)
-  front_is most n order starts ends =
-      take_is_filter (is_of entity) (take most (drop start rows)) n (λ k d l r. ends.0 k d (omega arith) l) (λ k d l r. ends.1 k d l r)
-      ∙ (first_passing (is_of entity) (drop start rows) most (parted_behind order starts)
-      ∙ ap (take most) (behind_is starts))
+  -- of the rows above the place those are listed that come before the first that is no live one of the entity
+  pub listed_first : (rows : List Row) → IsInKeyOrder rows → take_while (is_of entity) (filter above rows) ≡ filter (is_listed entity id second) rows
+  listed_first [] order = refl
+  listed_first (x ∷ rows) order = by (listed_first rows order.1) (above x) (is_of entity x) refl refl
+    where
+      by : take_while (is_of entity) (filter above rows) ≡ filter (is_listed entity id second) rows → (a b : Bool) → above x ≡ a → is_of entity x ≡ b → take_while (is_of entity) (filter above (x ∷ rows)) ≡ filter (is_listed entity id second) (x ∷ rows)
+      by more false b e f =
+          let not_listed : is_listed entity id second x ≡ false = sym (listed_is x) ∙ ap (λ (a : Bool). a && is_of entity x) e in
+          rw (e, not_listed) more
+      by more true true e f =
+          let is_in : is_listed entity id second x ≡ true = sym (listed_is x) ∙ (ap (λ (a : Bool). a && is_of entity x) e ∙ f) in
+          rw (e, is_in) (take_while-cons (is_of entity) x (filter above rows) ∙ (ap (λ (b : Bool). cond b (x ∷ take_while (is_of entity) (filter above rows)) []) f ∙ ap (λ (ys : List Row). x ∷ ys) more))
+      by more true false e f =
+          let not_listed : is_listed entity id second x ≡ false = sym (listed_is x) ∙ (ap (λ (a : Bool). a && is_of entity x) e ∙ f) in
+          rw (e, not_listed) (take_while-cons (is_of entity) x (filter above rows) ∙ (ap (λ (b : Bool). cond b (x ∷ take_while (is_of entity) (filter above rows)) []) f ∙ sym (none_listed x e f rows order.0)))
+
+-- ---- the first so many, one after the other
+
+taken_all : {X : Type 0} (n : ℕ) (xs : List X) → length xs ≤ n → take n xs ≡ xs
+taken_all zero [] few = refl
+taken_all zero (x ∷ xs) few = absurd (omega arith)
+taken_all (suc n) [] few = refl
+taken_all (suc n) (x ∷ xs) few = ap (λ (ys : List _). x ∷ ys) (taken_all n xs (omega arith))
+
+-- of all rows these are listed so far, and the rest is still to be looked at
+pub record AreListed (p : Row → Bool) (all listed rest : List Row) : Type 0 where
+  pub few : length listed ≤ most_listed
+  pub split : take most_listed (listed ++ take_while p rest) ≡ take most_listed (take_while p all)
+
+module _ (p : Row → Bool) (all listed : List Row) where
+  abbrev AreAll : Type 0
+  AreAll = listed ≡ take most_listed (take_while p all)
+
+  pub are_all_full : (rest : List Row) → AreListed p all listed rest → most_listed ≤ length listed → AreAll
+  are_all_full rest so_far full =
+      sym (taken_all most_listed listed so_far.few) ∙ (sym (take-append-le most_listed listed (take_while p rest) full) ∙ so_far.split)
+
+  -- nothing passes any more
+  are_all : (rest : List Row) → AreListed p all listed rest → take_while p rest ≡ [] → AreAll
+  are_all rest so_far none =
+      sym (taken_all most_listed listed so_far.few)
+      ∙ (ap (take most_listed) (sym (append-nil listed) ∙ ap (λ (ys : List Row). listed ++ ys) (sym none)) ∙ so_far.split)
+
+  pub are_all_ended : AreListed p all listed [] → AreAll
+  are_all_ended so_far = are_all [] so_far refl
+
+  pub are_all_before : (x : Row) (rest : List Row) → AreListed p all listed (x ∷ rest) → p x ≡ false → AreAll
+  are_all_before x rest so_far other =
+      are_all (x ∷ rest) so_far (take_while-cons p x rest ∙ ap (λ (b : Bool). cond b (x ∷ take_while p rest) []) other)
+
+  pub one_more : (x : Row) (rest : List Row) → AreListed p all listed (x ∷ rest) → p x ≡ true → length listed < most_listed → AreListed p all (listed ++ x ∷ []) rest
+  one_more x rest so_far passes room = record {
+    few = omega (arith, length-append listed (x ∷ []));
+    split =
+        ap (take most_listed) (append_assoc listed (x ∷ []) (take_while p rest)
+        ∙ ap (λ (ys : List Row). listed ++ ys) (sym (take_while-cons p x rest ∙ ap (λ (b : Bool). cond b (x ∷ take_while p rest) []) passes)))
+        ∙ so_far.split;
+  }

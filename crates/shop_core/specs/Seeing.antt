@@ -1,6 +1,11 @@
 -- Rows that are lent.
-use Rattle.std.specs.Prelude.{◌≡◌, Result, Ok, Err}
+use Rattle.std.specs.Prelude.{◌≡◌, nat_eq, Bool, ◌&&◌, Result, Ok, Err, List, map, Vec}
+use Rattle.std.specs.Borrow.{Bor}
+use Rattle.std.proofs.Common.{Global}
 use Rattle.shop_defs.specs.declared.broken.Broken.{Broken}
+use Rattle.shop_defs.specs.declared.entity.Entity.{Entity}
+use Rattle.shop_defs.specs.declared.row.Row.{Row}
+use Rattle.shop_defs.specs.Entities.{entity_number}
 use Rattle.shop_core.specs.declared.answers.AskFault.{AskFault}
 use Rattle.shop_core.specs.declared.answers.AskFault.TheVariants as asking
 use Rattle.shop_core.specs.declared.answers.RowReply.{RowReply}

@@ -1,8 +1,9 @@
 //! Rows as they are shown and listed.
 ghost use Rattle.std.specs.Prelude.{◌≡◌, IfOk, MatchResult, map, take, filter};
+ghost use Rattle.std.specs.List.{take_while};
 ghost use Rattle.std.specs.Option.{option_copied};
 ghost use Rattle.shop_requests.specs.Operations as Operations;
-ghost use Rattle.shop_defs.specs.Rows.{row_at, IsInKeyOrder};
+ghost use Rattle.shop_defs.specs.Rows.{row_at};
 ghost use Rattle.shop_defs.specs.Tables as Tables;
 ghost use Rattle.shop_chain.specs.Chains as Chains;
 ghost use Rattle.shop_chain.specs.Showing as Showing;
@@ -17,7 +18,7 @@ use shop_defs::{
     entity_named,
 };
 use shop_requests::RowRead;
-use shop_rows::Rows;
+use shop_rows::{Rows, Walk};
 use std::alloc::Global;
 
 /// So many rows are listed at most.
@@ -198,16 +199,28 @@ fn listed<'a>(
 ) -> Result<Vec<&'a Row>, NoMemory>
     ensures { IfOk result (λ listed. map (λ row. row.now) listed.items ≡ take spec.most_listed (filter (spec.is_listed entity id second) rows.entry.now.list)) }
 {
+    // Of this call just its promise of their order is wanted.
+    let _order = rows.len();
     let place = Key {
         entity,
         version: 0,
         id,
         second,
     };
+    first_live(alloc, entity, rows.behind(&place))
+}
+
+/// The first 100 of the rows before the first that is no live one of the entity.
+fn first_live<'a>(alloc: Global, entity: Entity, rows: Walk<'a>) -> Result<Vec<&'a Row>, NoMemory>
+    ensures { IfOk result (λ listed. map (λ row. row.now) listed.items ≡ take spec.most_listed (take_while (is_of entity) rows.entry)) }
+{
     let mut listed = Vec::new(alloc);
-    let mut behind = rows.behind(&place);
-    while let Some(row) = behind.next() {
-        if listed.len() >= MOST_LISTED || !is_live_of(entity, row) {
+    let mut rest = rows;
+    while let Some(row) = rest.next() {
+        if listed.len() >= MOST_LISTED {
+            return Ok(listed);
+        }
+        if !is_live_of(entity, row) {
             return Ok(listed);
         }
         listed.push(row)?;

@@ -49,6 +49,7 @@ left_counts : (way : Way) (state : State) (form : Form) (moment : ℤ) → (left
 left_counts worked_out state (asks (requests.Write command)) moment = step_counts state (write_at state command moment)
 left_counts worked_out state (asks (requests.Row read)) moment = omega arith
 left_counts worked_out state (asks (requests.RowList entity id second)) moment = omega arith
+left_counts worked_out state (asks request) moment = omega arith
 left_counts worked_out state (turned_away fault allow) moment = omega arith
 left_counts short state form moment = omega arith
 left_counts failed state form moment = omega arith

@@ -92,11 +92,12 @@ shown (Err broken) = replies.Refused (record { op = 0; broken = broken })
 abbrev pub write_at : State → Command → ℤ → Stepped
 write_at state command moment = step state.rows state.number command moment
 
--- the reply to a request by the rows
+-- the reply to a request by the rows: to one of those that aren't built yet, that it isn't
 abbrev pub reply_to : State → shop.Request → ℤ → Reply
 reply_to state (requests.Write command) moment = written (state.number + 1) (write_at state command moment)
 reply_to state (requests.Row read) moment = shown (answered replies.Row (reading state.rows read))
 reply_to state (requests.RowList entity id second) moment = shown (answered replies.RowList (with_bare (listing state.rows entity id second)))
+reply_to state request moment = replies.Line lines.NotBuilt
 
 abbrev pub reply : State → Form → ℤ → Reply
 reply state (asks request) moment = reply_to state request moment

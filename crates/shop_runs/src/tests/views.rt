@@ -124,15 +124,16 @@ fn gives(alloc: Global, id: u128, parent: u128) -> Result<Op, NoMemory> {
 }
 
 /// Whether keys are of their entities' forms.
-fn are_formed(rows: &[Row]) -> bool
-    ensures { result ≡ list_all (λ row. row_key_fits row.key) rows.now }
+fn are_formed(rows: &Rows) -> bool
+    ensures { result ≡ list_all (λ row. row_key_fits row.key) rows.now.list }
 {
-    rows.iter().all(|row| row_key_fits(&row.key))
+    let mut rows = rows.iter();
+    rows.all(|row| row_key_fits(&row.key))
 }
 
 /// The plan of an upsert, where the view is one of a draft and the operation fits.
 fn planned(alloc: Global, shown: &Shown, op: &Op) -> Option<Result<Delta, PlanFault>> {
-    if shown.version != 0 && are_formed(shown.rows.as_slice()) && op_fits(op) {
+    if shown.version != 0 && are_formed(&shown.rows) && op_fits(op) {
         Some(plan_op(alloc, shown, op, false))
     } else {
         None

@@ -10,7 +10,7 @@ returns-in-Ok-clause-checked g c = λ left coming.
     let new = g.K.Sink.written c.report-status.new.sink in
     let number = c.report-status.result.number in
     let text = c.report-status.ensures.reported _ c.counts-text.ensures in
-    let rows = subst (λ n. HasReportedText old new (count_lines n c.accepted.result) 0 number) (c.len.ensures ∙ ap length c.rows.ensures.rows) text in
+    let rows = subst (λ n. HasReportedText old new (count_lines n c.accepted.result) 0 number) (c.len.ensures.count ∙ ap length c.rows.ensures.rows) text in
     opened_checked _ _ number c.in-Ok.shop c.in-Ok.ensures.opens
     (subst (λ n. HasReportedText old new (count_lines (length c.in-Ok.shop.rows) n) 0 number) c.accepted.ensures rows)
     refl c.close.ensures.content c.close.ensures.faults refl
