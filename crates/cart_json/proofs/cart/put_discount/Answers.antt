@@ -1,0 +1,8 @@
+use Rattle.std.proofs.Common.{append_assoc}
+use Rattle.cart_json.proofs.cart.put_discount.Goals as goal
+
+pub returns : goal.returns
+returns c =
+    simp
+    (c.in_ok-id_member-2.ensures, c.in_ok-id_member.ensures, c.in_ok-number_member.ensures, c.in_ok-begin_object.ensures, append_assoc)
+    at c.end_object.ensures
