@@ -1,0 +1,11 @@
+mod Keys
+pub mod Orders
+pub mod Apart
+pub mod Shown
+pub mod Seen
+pub mod Replays
+pub mod AtOnce
+pub mod Logs
+pub mod Merged
+mod Parts
+mod Worked
