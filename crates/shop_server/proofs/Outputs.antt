@@ -171,7 +171,7 @@ module _ (first last : DeskView) (all before : List ℕ) (left' written' : Optio
   written_by Truncated s = all_answered Truncated s 6 (open_at s.how.2.0) refl s.how.0 s.how.1 s.how.2.2 (same_at_end Truncated s s.how.3)
   written_by ReadFault s =
       front_output 3 s.out s.out s.asked s.wrote s.how.1 (subst (λ l. IsFront l (cuts_of all).asked) (sym s.how.0) (read_front ReadFault s)) (front_of_all s.out) (inl refl)
-  written_by WriteFault s = elim s.how.2 as (λ _. Wrote 4) [
+  written_by WriteFault s = elim s.how.3 as (λ _. Wrote 4) [
     | inl h ↦
         front_output 4 s.how.0 s.out s.asked s.wrote h.1 (front_trans s.asked (cuts_of s.got).asked (cuts_of all).asked h.0 (read_front WriteFault s)) s.how.1 (inr (inl refl))
     | inr h ↦

@@ -1,6 +1,6 @@
 -- How a connection comes forward, by what a cut has to keep alone.
-use Rattle.std.proofs.Common.{◌≡◌, ℕ, zero, suc, ◌<◌, Bool, true, false, ◌||◌, ◌==◌, cond, List, [], ◌∷◌, ◌++◌, length, drop, refl, sym, ap, ◌∙◌, subst, inl, inr, append_assoc, append-nil, ◌⊎◌, Err}
-use Rattle.std.proofs.lemmas.List.{drop-append-le}
+use Rattle.std.proofs.Common.{◌≡◌, ℕ, zero, suc, ◌<◌, Bool, true, false, ◌||◌, ◌==◌, cond, List, [], ◌∷◌, ◌++◌, length, drop, refl, sym, ap, ◌∙◌, subst, inl, inr, arith, append_assoc, append-nil, ◌⊎◌, Err}
+use Rattle.std.proofs.lemmas.List.{drop-append-le, length-append}
 use Rattle.std.specs.Io.KnownBytes.{Consumes, Appends, IsAtEnd}
 use Rattle.std.proofs.KnownBytes.{Consumes-nil, Consumes-trans, Appends-nil, Appends-trans}
 use Rattle.shop_http.specs.Requests.{Request, Asked, Cuts, Front, whole, part, bad, Ending, open_at, refused, closing, spent, requests, with_front, IsCut, IsNextLook}
@@ -114,6 +114,10 @@ module _ {F A : Type 0} (gives : A → Asked → List ℕ → A → Type 0) (fat
             ∙ ap (λ bs. (requests cut n bs).ending) (sym (append_assoc mid.input piece more) ∙ ap (λ b. b ++ more) (sym e));
       }
 
+  -- with something behind it, what was sent is something
+  more_than : (sent more : List ℕ) → 0 < length more → 0 < length (sent ++ more)
+  more_than sent more some = omega (arith, length-append sent more)
+
   -- what was sent and what is due, with more behind it
   due_more : (n : ℕ) (now : Standing A) (p : At n now) (more : List ℕ) → p.out ++ more ≡ p.sent ++ (now.due ++ more)
   due_more n now p more = ap (λ l. l ++ more) p.rest ∙ append_assoc p.sent now.due more
@@ -184,7 +188,7 @@ module _ {F A : Type 0} (gives : A → Asked → List ℕ → A → Type 0) (fat
         read = read;
         wrote = wrote;
         whole = subst (λ o. HasEnded gives fatal (All got) first.answerer now.answerer asked o now.left ended) same how;
-        short = λ o f. (total, subst (λ l. IsFront o l) (sym same) f, inl (all_front asked got all, answers));
+        short = λ o f some. (total, subst (λ l. IsFront o l) (sym same) f, subst (λ l. 0 < length l) (sym same) (more_than sent (now.due ++ []) some), inl (all_front asked got all, answers));
       }
 
   pub closed_at_end : (n : ℕ) (now : Standing A) → At (suc n) now → cut now.input ≡ part → IsAtEnd now.left → now.input ≡ [] → Closes gives fatal cut most first now Closed []
@@ -235,12 +239,12 @@ module _ {F A : Type 0} (gives : A → Asked → List ℕ → A → Type 0) (fat
         read = p.read;
         wrote = p.wrote;
         whole = (f, p.out, ends, all, p.answers, same);
-        short = λ o front. (p.sent ++ (now.due ++ reply), front, inr (f, p.out, ends, all, p.answers, same));
+        short = λ o front some. (p.sent ++ (now.due ++ reply), front, more_than p.sent (now.due ++ reply) some, inr (f, p.out, ends, all, p.answers, same));
       }
 
   -- and it was written, or a front of it
   pub finished : (now next : Standing A) (ended result : Ended) (reply front : List ℕ) → Closes gives fatal cut most first now ended reply → IsFront front (now.due ++ reply)
-      → Appends now.written next.written front → ((result ≡ ended) × (front ≡ now.due ++ reply)) ⊎ (result ≡ WriteFault) → next.left ≡ now.left → next.answerer ≡ now.answerer → Done next result
+      → Appends now.written next.written front → ((result ≡ ended) × (front ≡ now.due ++ reply)) ⊎ ((result ≡ WriteFault) × (0 < length (now.due ++ reply))) → next.left ≡ now.left → next.answerer ≡ now.answerer → Done next result
   finished now next ended result reply front c f a how unread same =
       let out : List ℕ = c.sent ++ front in
       let begun : IsFront out (c.sent ++ (now.due ++ reply)) = (f.0, ap (λ l. c.sent ++ l) f.1 ∙ sym (append_assoc c.sent front f.0)) in
@@ -248,7 +252,7 @@ module _ {F A : Type 0} (gives : A → Asked → List ℕ → A → Type 0) (fat
       elim how as (λ _. HasEnded gives fatal (All c.got) first.answerer now.answerer c.asked out now.left result) [
         | inl k ↦ subst (λ e. HasEnded gives fatal (All c.got) first.answerer now.answerer c.asked out now.left e) (sym k.0)
             (subst (λ o. HasEnded gives fatal (All c.got) first.answerer now.answerer c.asked o now.left ended) (ap (λ l. c.sent ++ l) (sym k.1)) c.whole)
-        | inr k ↦ subst (λ e. HasEnded gives fatal (All c.got) first.answerer now.answerer c.asked out now.left e) (sym k) (c.short out begun)
+        | inr k ↦ subst (λ e. HasEnded gives fatal (All c.got) first.answerer now.answerer c.asked out now.left e) (sym k.0) (c.short out begun k.1)
       ] in
       record {
         got = c.got;
@@ -263,9 +267,9 @@ module _ {F A : Type 0} (gives : A → Asked → List ℕ → A → Type 0) (fat
   -- ---- the connection is over
 
   -- what was due couldn't be written whole
-  pub cut_off : (n : ℕ) (now mid next : Standing A) (front : List ℕ) → At (suc n) now → mid ≡ now → IsFront front mid.due → Appends mid.written next.written front
+  pub cut_off : (n : ℕ) (now mid next : Standing A) (front : List ℕ) → At (suc n) now → mid ≡ now → IsFront front mid.due → 0 < length mid.due → Appends mid.written next.written front
       → next.left ≡ mid.left → next.answerer ≡ mid.answerer → Done next WriteFault
-  cut_off n now mid next front p looked f a unread same = by (subst (λ s. At (suc n) s) (sym looked) p)
+  cut_off n now mid next front p looked f some a unread same = by (subst (λ s. At (suc n) s) (sym looked) p)
     where
       by : At (suc n) mid → Done next WriteFault
       by p = record {
@@ -277,6 +281,7 @@ module _ {F A : Type 0} (gives : A → Asked → List ℕ → A → Type 0) (fat
         how = (
           p.out,
           (f.0, p.rest ∙ ap (λ l. p.sent ++ l) f.1 ∙ sym (append_assoc p.sent front f.0)),
+          subst (λ l. 0 < length l) (sym p.rest) (more_than p.sent mid.due some),
           inl (((requests cut (suc n) mid.input).asked, listed_all (suc n) mid p), subst (λ s. Answers gives first.answerer p.asked p.out s) (sym same) p.answers),
         );
       }
@@ -311,8 +316,8 @@ module _ {F A : Type 0} (gives : A → Asked → List ℕ → A → Type 0) (fat
 
   pub reply_cut : (n : ℕ) (now next : Standing A) (response front : List ℕ) (r : Request) (used : ℕ) (last : Bool) → At (suc n) now → cut now.input ≡ whole r used
       → last ≡ (r.closing || (n == 0)) → gives now.answerer (record { request = r; last = last }) response next.answerer
-      → IsFront front (now.due ++ response) → Appends now.written next.written front → next.left ≡ now.left → Done next WriteFault
-  reply_cut n now next response front r used last p h is_last g part_of a unread =
+      → IsFront front (now.due ++ response) → 0 < length (now.due ++ response) → Appends now.written next.written front → next.left ≡ now.left → Done next WriteFault
+  reply_cut n now next response front r used last p h is_last g part_of some a unread =
       let ask : Asked = record { request = r; last = last } in
       let begins : IsFront (ask ∷ []) (requests cut (suc n) now.input).asked =
       elim r.closing as (λ v. r.closing ≡ v → last ≡ (v || (n == 0)) → IsFront (ask ∷ []) (requests cut (suc n) now.input).asked) [
@@ -328,6 +333,7 @@ module _ {F A : Type 0} (gives : A → Asked → List ℕ → A → Type 0) (fat
         how = (
           p.out ++ response,
           due_front (suc n) now p response front part_of,
+          subst (λ l. 0 < length l) (sym (due_more (suc n) now p response)) (more_than p.sent (now.due ++ response) some),
           inl (
             (begins.0, listed_all (suc n) now p ∙ ap (λ x. p.asked ++ x) begins.1 ∙ sym (append_assoc p.asked (ask ∷ []) begins.0)),
             answers_push gives first.answerer now.answerer next.answerer p.asked ask p.out response p.answers g,
@@ -341,7 +347,7 @@ module _ {F A : Type 0} (gives : A → Asked → List ℕ → A → Type 0) (fat
   -- more was wanted, and a call failed or there was no room
   pub went_off : (n least : ℕ) (now mid next : Standing A) (ended : Ended) → At (suc n) now → mid ≡ now → IsNextLook cut now.input least
       → HasGoneOn mid.left next.left mid.written next.written mid.due next.due mid.input next.input least (Err ended) → next.answerer ≡ mid.answerer → Done next ended
-  went_off n least now mid next WriteFault p looked l w same = cut_off n now mid next w.0 p looked w.1 w.2 w.3 same
+  went_off n least now mid next WriteFault p looked l w same = cut_off n now mid next w.0 p looked w.1 w.4 w.2 w.3 same
   went_off n least now mid next ReadFault p looked l w same =
       read_failed n next (gone_on (suc n) now mid next w.2 p looked w.0 w.1 w.3 w.4 same)
       (ap cut w.4 ∙ (same_look now mid least looked l).before w.2 (subst (λ bs. length bs < least) w.4 w.5)) w.1

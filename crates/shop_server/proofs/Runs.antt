@@ -180,7 +180,7 @@ module _ (old new : DeskView) (left left' written written' : Option (List ℕ)) 
           all = inr s.how.5;
         };
       }
-  has_text WriteFault s = elim s.how.2 as (λ _. HasText WriteFault s) [
+  has_text WriteFault s = elim s.how.3 as (λ _. HasText WriteFault s) [
     | inl h ↦ record {
       text = s.how.0;
       answers = h.1;

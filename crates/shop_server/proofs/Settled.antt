@@ -121,7 +121,7 @@ module _ {F A : Type 0} (gives : A → Asked → List ℕ → A → Type 0) (fat
   asked_first Spent s = all_of s.asked s.got s.how.0
   asked_first Truncated s = all_of s.asked s.got s.how.0
   asked_first ReadFault s = all_of s.asked s.got s.how.0
-  asked_first WriteFault s = elim s.how.2 as (λ _. IsFront s.asked (requests cut most s.got).asked) [
+  asked_first WriteFault s = elim s.how.3 as (λ _. IsFront s.asked (requests cut most s.got).asked) [
     | inl h ↦ h.0
     | inr h ↦ all_of s.asked s.got h.3
   ]

@@ -46,7 +46,7 @@ pub record Closes {F A : Type 0} (gives : A → Asked → List ℕ → A → Typ
   pub read : Consumes first.left now.left got
   pub wrote : Appends first.written now.written sent
   pub whole : HasEnded gives fatal (requests cut most got) first.answerer now.answerer asked (sent ++ (now.due ++ reply)) now.left ended
-  pub short : (out : List ℕ) → IsFront out (sent ++ (now.due ++ reply)) → HasEnded gives fatal (requests cut most got) first.answerer now.answerer asked out now.left WriteFault
+  pub short : (out : List ℕ) → IsFront out (sent ++ (now.due ++ reply)) → 0 < length (now.due ++ reply) → HasEnded gives fatal (requests cut most got) first.answerer now.answerer asked out now.left WriteFault
 
 -- The same for one look at the front of the input, which may want more bytes, and then nothing has changed.
 abbrev pub HasStepped : {F A : Type 0} → (A → Asked → List ℕ → A → Type 0) → (F → List ℕ) → (List ℕ → Front F) → ℕ → Standing A → Standing A → Bool → Step → Type 0
@@ -77,7 +77,7 @@ HasGoneOn left left' written written' due due' input input' least (Ok ended) =
     Appends written written' due × (due' ≡ []) × (piece : List ℕ) × Consumes left left' piece × (input' ≡ input ++ piece)
     × (ended ≡ true → IsAtEnd left') × (ended ≡ false → least ≤ length input')
 HasGoneOn left left' written written' due due' input input' least (Err WriteFault) =
-    (front : List ℕ) × IsFront front due × Appends written written' front × (left' ≡ left)
+    (front : List ℕ) × IsFront front due × Appends written written' front × (left' ≡ left) × (0 < length due)
 HasGoneOn left left' written written' due due' input input' least (Err ReadFault) =
     Appends written written' due × (due' ≡ []) × (piece : List ℕ) × Consumes left left' piece × (input' ≡ input ++ piece) × (length input' < least)
 HasGoneOn left left' written written' due due' input input' least (Err NoMemory) =

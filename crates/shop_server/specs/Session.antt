@@ -59,10 +59,10 @@ HasEnded gives fatal all old new asked out left Truncated =
 -- all were answered, and more bytes were wanted
 HasEnded gives fatal all old new asked out left ReadFault =
     (asked ≡ all.asked) × Answers gives old asked out new × ((rest : List ℕ) × (all.ending ≡ open_at rest))
--- A front of what was due: of the answers to the requests that were answered, which may not be all of them, or of all answers
--- and the fatal reply behind them.
+-- A front of what was due, which was something: of the answers to the requests that were answered, which may not be all of
+-- them, or of all answers and the fatal reply behind them.
 HasEnded {F} {A} gives fatal all old new asked out left WriteFault =
-    (due : List ℕ) × IsFront out due
+    (due : List ℕ) × IsFront out due × (0 < length due)
     × ((IsFront asked all.asked × Answers gives old asked due new)
     ⊎ ((f : F) × (body : List ℕ) × (all.ending ≡ refused f) × (asked ≡ all.asked) × Answers gives old asked body new × (due ≡ body ++ fatal f)))
 -- all were answered, and more bytes were wanted

@@ -1,5 +1,5 @@
 //! The loop of a connection.
-ghost use Rattle.std.specs.Prelude.{◌≡◌, ◌-◌, ◌++◌, ◌⊎◌, ◌||◌, ◌==◌, ℕ, List, [], Some, OnOk, OnErr, IsErrOf, IsTrue};
+ghost use Rattle.std.specs.Prelude.{◌≡◌, ◌<◌, ◌-◌, ◌++◌, ◌⊎◌, ◌||◌, ◌==◌, ℕ, List, [], length, Some, OnOk, OnErr, IsErrOf, IsTrue};
 ghost use Rattle.std.specs.Io.KnownBytes.{Appends, IsAtEnd};
 ghost use Rattle.shop_outside.specs.Causes.{Rose};
 ghost use Rattle.shop_http.specs.Requests.{request_of};
@@ -47,6 +47,7 @@ fn write_all<L: Link>(link: &mut L, bytes: &[u8]) -> Result<(), Failed>
         × Appends (L.written link.old) (L.written link.new) front × OnOk result (front ≡ bytes.now) }
     ensures failed { OnErr result (Rose (L.write_faults link.old) (L.write_faults link.new)) }
     ensures kept { OnOk result (L.write_faults link.new ≡ L.write_faults link.old) }
+    ensures some { OnErr result (0 < length bytes.now) }
     ensures left { L.left link.new ≡ L.left link.old }
     ensures reads { L.read_faults link.new ≡ L.read_faults link.old }
     ensures names { L.names link.new ≡ L.names link.old }
@@ -61,6 +62,7 @@ fn write_due<L: Link>(link: &mut L, due: &mut Vec<u8>, more: &[u8]) -> Result<()
         × OnOk result ((front ≡ due.old.items ++ more.now) × (due.new.items ≡ [])) }
     ensures failed { OnErr result (Rose (L.write_faults link.old) (L.write_faults link.new)) }
     ensures kept { OnOk result (L.write_faults link.new ≡ L.write_faults link.old) }
+    ensures some { OnErr result (0 < length (due.old.items ++ more.now)) }
     ensures left { L.left link.new ≡ L.left link.old }
     ensures reads { L.read_faults link.new ≡ L.read_faults link.old }
     ensures names { L.names link.new ≡ L.names link.old }
@@ -90,7 +92,8 @@ fn reply<L: Link, A: Answerer, T: Clock>(
         (record { answerer = answerer.new; coming = T.coming clock.new })
         × IsFront front (due.old.items ++ response)
         × Appends (L.written link.old) (L.written link.new) front
-        × OnOk result (due.old.items ++ response ≡ front ++ due.new.items) }
+        × OnOk result (due.old.items ++ response ≡ front ++ due.new.items)
+        × OnErr result (0 < length (due.old.items ++ response)) }
     ensures failed { OnErr result (Rose (L.write_faults link.old) (L.write_faults link.new)) }
     ensures kept { OnOk result (L.write_faults link.new ≡ L.write_faults link.old) }
     ensures left { L.left link.new ≡ L.left link.old }
@@ -186,7 +189,7 @@ fn over(ended: Ended) -> Step
 fn finish<L: Link>(link: &mut L, due: &mut Vec<u8>, reply: &[u8], ended: Ended) -> Ended
     ensures wrote { (front : List ℕ) × IsFront front (due.old.items ++ reply.now)
         × Appends (L.written link.old) (L.written link.new) front
-        × (((result ≡ ended) × (front ≡ due.old.items ++ reply.now)) ⊎ (result ≡ Ended.WriteFault)) }
+        × (((result ≡ ended) × (front ≡ due.old.items ++ reply.now)) ⊎ ((result ≡ Ended.WriteFault) × (0 < length (due.old.items ++ reply.now)))) }
     ensures failed { (ended ≡ Ended.WriteFault → ⊥) → result ≡ Ended.WriteFault → Rose (L.write_faults link.old) (L.write_faults link.new) }
     ensures kept { (result ≡ Ended.WriteFault → ⊥) → L.write_faults link.new ≡ L.write_faults link.old }
     ensures left { L.left link.new ≡ L.left link.old }

@@ -1,5 +1,5 @@
 //! Bytes that are written whole.
-ghost use Rattle.std.specs.Prelude.{◌≡◌, List, ℕ, OnOk, OnErr};
+ghost use Rattle.std.specs.Prelude.{◌≡◌, ◌<◌, List, ℕ, length, OnOk, OnErr};
 ghost use Rattle.std.specs.Io.KnownBytes.{Appends};
 ghost use Rattle.shop_outside.specs.Causes.{Rose};
 ghost use Rattle.shop_server.specs.Session.{IsFront};
@@ -12,6 +12,7 @@ pub(crate) fn write_whole<K: Sink>(sink: &mut K, bytes: &[u8]) -> Result<(), Fai
         × Appends (K.written sink.old) (K.written sink.new) front × OnOk result (front ≡ bytes.now) }
     ensures failed { OnErr result (Rose (K.write_faults sink.old) (K.write_faults sink.new)) }
     ensures kept { OnOk result (K.write_faults sink.new ≡ K.write_faults sink.old) }
+    ensures some { OnErr result (0 < length bytes.now) }
     ensures beside { K.past_writes sink.new ≡ K.past_writes sink.old }
 {
     let mut done = 0;

@@ -13,7 +13,7 @@ returns-in-Err-clause-stepped g c = λ most first p.
     let a = c.in-Err.ensures.answered in
     reply_cut _ _ _ _ g.met.C.Framing.is_cut most first c.args.more _
     (record { answerer = record { answerer = c.reply.new.answerer; coming = g.T.Clock.coming c.reply.new.clock }; left = g.L.Source.left c.reply.new.link; written = g.L.Sink.written c.reply.new.link; input = []; due = [] })
-    a.0 a.1 _ c.in-Whole.used c.is_last-last.result p (ap g.C.Framing.cut (sym c.rest.ensures) ∙ c.in-Whole.ensures.next) c.is_last-last.ensures a.2 a.3 a.4 c.reply.ensures.left
+    a.0 a.1 _ c.in-Whole.used c.is_last-last.result p (ap g.C.Framing.cut (sym c.rest.ensures) ∙ c.in-Whole.ensures.next) c.is_last-last.ensures a.2 a.3 a.6 a.4 c.reply.ensures.left
 
 pub returns-in-Ok-clause-stepped : goal.returns-in-Ok-clause-stepped
 returns-in-Ok-clause-stepped g c =
