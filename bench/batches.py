@@ -9,18 +9,10 @@ A batch that is read and no more is the same list as the member of an object: it
 once. A head that is read and no more has a target of the same length that no path is: its answer is a short refusal. Each time is
 the best of three, less what the program needs for the requests before those that are measured.
 """
-import os
 import random
-import subprocess
 import sys
-import tempfile
 
-TOP = os.path.dirname(os.path.dirname(os.path.abspath(__file__)))
-SHOP = os.path.join(TOP, "shop")
-
-
-def post(body):
-    return b"POST /sync HTTP/1.1\r\nContent-Length: %d\r\n\r\n%s" % (len(body), body)
+from timing import build, post, seconds_of
 
 
 def product(number, gross):
@@ -29,22 +21,6 @@ def product(number, gross):
 
 def batch(numbers, gross=100):
     return b"[" + b",".join(product(number, gross) for number in numbers) + b"]"
-
-
-def seconds_of(stream):
-    """The processor time of the program over the stream."""
-    with tempfile.NamedTemporaryFile() as file:
-        file.write(stream)
-        file.flush()
-        times = []
-        for _ in range(3):
-            with open(file.name, "rb") as source, open(os.devnull, "wb") as sink:
-                child = subprocess.Popen([SHOP, "run"], stdin=source, stdout=sink)
-                _, status, usage = os.wait4(child.pid, 0)
-            if status:
-                sys.exit("status %d" % os.waitstatus_to_exitcode(status))
-            times.append(usage.ru_utime + usage.ru_stime)
-        return min(times)
 
 
 def filled(rows):
@@ -88,5 +64,5 @@ def time_heads():
 
 if len(sys.argv) != 2 or sys.argv[1] not in ("rows", "bodies", "heads"):
     sys.exit(__doc__)
-subprocess.run([SHOP, "run"], stdin=subprocess.DEVNULL, check=True)
+build()
 {"rows": time_rows, "bodies": time_bodies, "heads": time_heads}[sys.argv[1]]()

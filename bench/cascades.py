@@ -1,28 +1,21 @@
 #!/usr/bin/env python3
 """Prints what it costs to plan a delete of a category with many below it, and a new parent for one, and the ratios.
 
-usage: bench/cascades.py [--ids order|random]
+usage: bench/cascades.py [--ids order|random] [--instructions]
 
 Each batch has the operation that is timed, and then one that is refused, so that the whole is planned and nothing is changed. A
 cost is the processor time of a run of ./shop over the rows and then some such batches, less that of a run over the rows alone,
 divided by the number of batches: the best of three runs each, with standard output thrown away. Rows are wide, all of them
-children of one category, or a tree in which each has ten children.
+children of one category, or a tree in which each has ten children. With --instructions it counts instructions by valgrind in place
+of times, of one such batch.
 """
 import argparse
-import os
 import random
-import subprocess
-import sys
-import tempfile
 
-TOP = os.path.dirname(os.path.dirname(os.path.abspath(__file__)))
-SHOP = os.path.join(TOP, "shop")
+from timing import build, instructions_of, post, seconds_of
+
 SIZES = {1_000: 200, 10_000: 20, 100_000: 4}
 FIRST = 3
-
-
-def post(body):
-    return b"POST /sync HTTP/1.1\r\nContent-Length: %d\r\n\r\n%s" % (len(body), body)
 
 
 def category(number, parent=None):
@@ -32,22 +25,6 @@ def category(number, parent=None):
 
 def delete(number):
     return b'{"op":"delete","entity":"category","id":"%032x"}' % number
-
-
-def seconds_of(stream):
-    """The processor time of the program over the stream."""
-    with tempfile.NamedTemporaryFile() as file:
-        file.write(stream)
-        file.flush()
-        times = []
-        for _ in range(3):
-            with open(file.name, "rb") as source, open(os.devnull, "wb") as sink:
-                child = subprocess.Popen([SHOP, "run"], stdin=source, stdout=sink)
-                _, status, usage = os.wait4(child.pid, 0)
-            if status:
-                sys.exit("status %d" % os.waitstatus_to_exitcode(status))
-            times.append(usage.ru_utime + usage.ru_stime)
-        return min(times)
 
 
 def rows_below(size, children, order):
@@ -67,18 +44,24 @@ def rows_below(size, children, order):
 def main():
     options = argparse.ArgumentParser(usage=__doc__)
     options.add_argument("--ids", choices=["order", "random"], default="order")
-    order = options.parse_args().ids
-    subprocess.run([SHOP, "run"], stdin=subprocess.DEVNULL, check=True)
+    options.add_argument("--instructions", action="store_true")
+    options = options.parse_args()
+    build()
     refused = delete(2**120)
     for shape, children in (("wide", None), ("a tree", 10)):
         for what, operation in (("a delete of the category above them", delete(2)), ("a new parent for it", category(2, 1))):
             before = None
             for size, count in SIZES.items():
-                base = rows_below(size, children, order)
+                base = rows_below(size, children, options.ids)
                 batch = post(b"[" + operation + b"," + refused + b"]")
-                cost = (seconds_of(base + batch * count) - seconds_of(base)) / count
+                if options.instructions:
+                    cost = instructions_of(base + batch) - instructions_of(base)
+                    shown = "%.1f million instructions, %d a row" % (cost / 1e6, cost / size)
+                else:
+                    cost = (seconds_of(base + batch * count) - seconds_of(base)) / count
+                    shown = "%.3f ms" % (cost * 1e3)
                 ratio = "" if before is None else ", ratio %.1f" % (cost / before)
-                print("%s, %6d rows, %s: %.3f ms%s" % (what, size, shape, cost * 1e3, ratio))
+                print("%s, %6d rows, %s: %s%s" % (what, size, shape, shown, ratio), flush=True)
                 before = cost
 
 
