@@ -112,9 +112,25 @@ given_other (entry ∷ rest) fields number e =
     let parts = or_parts (entry.0 == number) (list_any (λ x. x.0 == number) rest) e in
     given_other rest (give fields entry) number parts.1 ∙ give_other fields number entry.0 entry.1 parts.0
 
+-- fields that stand once, by rising numbers, do so afterwards
 give_rises : (fields : List (ℕ × Value)) (at : ℕ) (value : Option Value) → Ascends nat_cmp field_number fields → Ascends nat_cmp field_number (give fields (at, value))
 give_rises fields at None up = ascends_without nat_cmp field_number nat_cmp_total fields at up
 give_rises fields at (Some value) up = ascends_put nat_cmp field_number nat_cmp_total fields (at, value) up
+
+pub given_rise : (entries : List (ℕ × Option Value)) (fields : List (ℕ × Value)) → Ascends nat_cmp field_number fields → Ascends nat_cmp field_number (fold give fields entries)
+given_rise [] fields up = up
+given_rise ((at, value) ∷ rest) fields up = given_rise rest (give fields (at, value)) (give_rises fields at value up)
+
+fill_rises : (fields : List (ℕ × Value)) (info : FieldInfo) → Ascends nat_cmp field_number fields → Ascends nat_cmp field_number (fill fields info)
+fill_rises fields info up = by (is_some (field_in fields info.number))
+  where
+    by : (b : Bool) → Ascends nat_cmp field_number (if b then fields else give fields (info.number, preset_of info))
+    by true = up
+    by false = give_rises fields info.number (preset_of info) up
+
+pub filled_rise : (table : List FieldInfo) (fields : List (ℕ × Value)) → Ascends nat_cmp field_number fields → Ascends nat_cmp field_number (fold fill fields table)
+filled_rise [] fields up = up
+filled_rise (info ∷ rest) fields up = filled_rise rest (fill fields info) (fill_rises fields info up)
 
 -- what a field holds after what was given for it, where it held `before` before; of null only where each field stands once
 abbrev Holds : Type 0 → Option Value → Option (Option Value) → Option Value → Type 0
@@ -190,7 +206,7 @@ filled first number (info ∷ rest) fields counts = filled (first + 1) number re
 -- ---- the row that an upsert leaves
 
 pub rows_take_what_is_given : RowsTakeWhatIsGiven
-rows_take_what_is_given op row = record { value = has_value; null = has_null; other = has_other; key = refl; ops = refl }
+rows_take_what_is_given op row = record { value = has_value; null = has_null; other = has_other; once = has_once; key = refl; ops = refl }
   where
     given : List (ℕ × Value)
     given = fold give row.fields op.fields
@@ -209,3 +225,6 @@ rows_take_what_is_given op row = record { value = has_value; null = has_null; ot
 
     has_other : (number : ℕ) → given_for op number ≡ None → field_in (given_to row op).fields number ≡ option_or (field_in row.fields number) (preset_at row.key.entity number)
     has_other number e = after number ∙ ap (λ now. option_or now (preset_at row.key.entity number)) (holds number None e)
+
+    has_once : HasFieldsOnce row → HasFieldsOnce (given_to row op)
+    has_once once = filled_rise (fields_of row.key.entity) (fold give row.fields op.fields) (given_rise op.fields row.fields once)

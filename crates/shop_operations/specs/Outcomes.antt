@@ -1,5 +1,5 @@
 -- What an accepted operation leaves of the rows that it saw, in words.
-use Rattle.std.specs.Prelude.{◌≡◌, ℕ, Bool, true, false, not, ◌==◌, List, [], ◌∷◌, filter, Option, Some, None, if◌then◌else◌}
+use Rattle.std.specs.Prelude.{◌≡◌, ◌≤◌, ℕ, Bool, true, false, not, ◌==◌, ◌||◌, List, [], ◌∷◌, filter, count_by, Option, Some, None, is_some, if◌then◌else◌}
 use Rattle.std.specs.List.{fold}
 use Rattle.std.specs.Option.{option_and_then, option_or, unwrap_or}
 use Rattle.std.specs.Ordering.{nat_cmp}
@@ -12,17 +12,21 @@ use Rattle.shop_defs.specs.declared.op.Op.{Op}
 use Rattle.shop_defs.specs.declared.op.OpKind.{OpKind}
 use Rattle.shop_defs.specs.declared.op.OpKind.TheVariants.{Upsert, Delete}
 use Rattle.shop_defs.specs.declared.row.Row.{Row}
+use Rattle.shop_defs.specs.declared.table.FieldInfo.{FieldInfo}
+use Rattle.shop_defs.specs.declared.table.OwnerLimit.{OwnerLimit}
 use Rattle.shop_defs.specs.declared.table.Part.TheVariants as P
 use Rattle.shop_defs.specs.declared.table.Reference.{Reference}
-use Rattle.shop_defs.specs.declared.table.TheConstants.{REFERENCES}
+use Rattle.shop_defs.specs.declared.table.TheConstants.{REFERENCES, LEVEL_LIMITS, OWNER_LIMITS, MOST_ROWS}
 use Rattle.shop_defs.specs.declared.value.Value.{Value}
 use Rattle.shop_defs.specs.Presets.{preset_of}
 use Rattle.shop_defs.specs.Rows.{field_of}
-use Rattle.shop_defs.specs.Tables.{field_at}
+use Rattle.shop_defs.specs.Tables.{field_at, fields_of}
 use Rattle.shop_operations.specs.Deletes.{stands_at}
-use Rattle.shop_operations.specs.References.{falls_with, holds_back, sets_null, ties}
-use Rattle.shop_operations.specs.Upserts.{bare_row, field_number, given_to, row_in}
-use Rattle.shop_operations.specs.Views.{IsInPlaceOrder}
+use Rattle.shop_operations.specs.Operations.{place}
+use Rattle.shop_operations.specs.Parents.{is_below, is_deep}
+use Rattle.shop_operations.specs.References.{falls_with, holds_back, is_entity, is_met, sets_null, ties}
+use Rattle.shop_operations.specs.Upserts.{bare_row, count_of, field_number, gives_parent, gives_part, given_to, is_of_owner, is_of_tree, is_twin, row_in}
+use Rattle.shop_operations.specs.Views.{View, IsInPlaceOrder}
 
 -- ---- upserts
 
@@ -49,6 +53,8 @@ pub record TakesWhatIsGiven (op : Op) (before after : Row) : Type 0 where
   pub null : HasFieldsOnce before → (number : ℕ) → given_for op number ≡ Some None → field_of after number ≡ preset_at after.key.entity number
   -- any other is as before, or has its preset if it was null
   pub other : (number : ℕ) → given_for op number ≡ None → field_of after number ≡ option_or (field_of before number) (preset_at after.key.entity number)
+  -- each field stands once, by rising numbers
+  pub once : HasFieldsOnce before → HasFieldsOnce after
   pub key : after.key ≡ before.key
   pub ops : after.ops ≡ before.ops
 
@@ -60,12 +66,35 @@ RowsTakeWhatIsGiven = (op : Op) (row : Row) → TakesWhatIsGiven op row (given_t
 abbrev pub elsewhere : Key → List Row → List Row
 elsewhere key rows = filter (λ row. not (stands_at key row)) rows
 
--- after an upsert at the place: the row that stood there, or one without fields, has what is given, the rows at all other
--- places are as before, and each place stands once if it did
-pub record UpsertLeaves (key : Key) (op : Op) (before after : List Row) : Type 0 where
+-- the row keeps to each rule that an upsert is tried against: `before` is what stood at its place, `rows` are the rows with it,
+-- and so many rows of an entity aren't among them
+pub record KeepsTheRules (op : Op) (before : Option Row) (row : Row) (rows : List Row) (hidden : Entity → ℕ) : Type 0 where
+  -- a fixed field of a row that was there is as it was, also if it was null
+  pub fixed : (was : Row) → before ≡ Some was → (field : FieldInfo) → IsIn field (fields_of row.key.entity) → field.marks.fixed ≡ true → field_of row field.number ≡ field_of was field.number
+  -- no required field is null
+  pub required : (field : FieldInfo) → IsIn field (fields_of row.key.entity) → field.marks.required ≡ true → is_some (field_of row field.number) ≡ true
+  -- what a given reference names is there,
+  pub met : (reference : Reference) → IsIn reference REFERENCES → is_entity reference.entity row.key.entity ≡ true → gives_part op reference.part ≡ true → is_met reference rows row ≡ true
+  -- and a node that it names is of the row's tree
+  pub of_tree : (reference : Reference) → IsIn reference REFERENCES → is_entity reference.entity row.key.entity ≡ true → gives_part op reference.part ≡ true → is_of_tree reference rows row ≡ true
+  -- no other row has the same unique fields
+  pub single : (other : Row) → IsIn other rows → is_twin row other ≡ false
+  -- if a parent is given, the row isn't below itself,
+  pub acyclic : gives_parent op ≡ true → is_below REFERENCES rows row row ≡ false
+  -- and neither it nor a row below it stands lower than it may
+  pub shallow : gives_parent op ≡ true → (other : Row) → IsIn other rows → (stands_at row.key other || is_below REFERENCES rows row other) ≡ true → is_deep REFERENCES LEVEL_LIMITS rows other ≡ false
+  -- there aren't more rows of its entity than there may be,
+  pub bounded : count_of hidden rows row.key.entity ≤ MOST_ROWS
+  -- nor more of its owner
+  pub few : (limit : OwnerLimit) → IsIn limit OWNER_LIMITS → is_entity limit.entity row.key.entity ≡ true → count_by (is_of_owner limit row) rows ≤ limit.most
+
+-- after an upsert at the place: the row that stood there, or one without fields, has what is given, and keeps to the rules; the
+-- rows at all other places are as before, and each place stands once if it did
+pub record UpsertLeaves (hidden : Entity → ℕ) (key : Key) (op : Op) (before after : List Row) : Type 0 where
   pub row : Row
   pub is_there : row_in after key ≡ Some row
   pub given : TakesWhatIsGiven op (unwrap_or (row_in before key) (bare_row key)) row
+  pub unbroken : KeepsTheRules op (row_in before key) row after hidden
   pub others : elsewhere key after ≡ elsewhere key before
   pub in_order : IsInPlaceOrder before → IsInPlaceOrder after
 
@@ -103,8 +132,12 @@ ArePaired Fits [] (y ∷ ys) = ⊥
 ArePaired Fits (x ∷ xs) [] = ⊥
 ArePaired Fits (x ∷ xs) (y ∷ ys) = Fits x y × ArePaired Fits xs ys
 
--- after a delete at the place: just the rows that aren't lost stay, and none of them held back a lost one
-pub record DeleteLeaves (key : Key) (before after : List Row) : Type 0 where
+-- after a delete at the place: a row was there, unless the delete is replayed; just the rows that aren't lost stay, and none of
+-- them held back a lost one
+pub record DeleteLeaves (key : Key) (replay : Bool) (before after : List Row) : Type 0 where
+  pub there : replay ≡ false → is_some (row_in before key) ≡ true
+  -- where none was, all is as before
+  pub missing : row_in before key ≡ None → after ≡ before
   pub lost : Row → Bool
   pub are_lost : AreLost before key lost
   pub stay : ArePaired (LosesWhatIsLost before lost) (filter (λ row. not (lost row)) before) after
@@ -112,7 +145,7 @@ pub record DeleteLeaves (key : Key) (before after : List Row) : Type 0 where
 
 -- ---- operations
 
--- what an operation of that kind at the place leaves of the rows before
-abbrev pub Leaves : OpKind → Key → Op → List Row → List Row → Type 0
-Leaves Upsert key op before after = UpsertLeaves key op before after
-Leaves Delete key op before after = DeleteLeaves key before after
+-- what an operation of that kind, on a view, leaves of its rows
+abbrev pub Leaves : OpKind → View → Op → Bool → List Row → Type 0
+Leaves Upsert view op replay after = UpsertLeaves view.hidden (place view op) op view.rows after
+Leaves Delete view op replay after = DeleteLeaves (place view op) replay view.rows after

@@ -2,14 +2,15 @@
 //!
 //! # What is promised
 //!
-//! - The definitions in `specs/` say what an operation and a batch leave of rows, and the first
-//!   rule that is broken (`operated`, `batch`, `live_batch`; `docs/DEFINITIONS.md` has them in
-//!   plain words). The functions here are what these are made of on one row or two; each is proved
+//! - The definitions in `specs/` say what an operation leaves of rows, or the first rule that it
+//!   breaks (`operated`; `docs/DEFINITIONS.md` has it in plain words; what a batch leaves stands in
+//!   `shop_soundness`). The functions here are what it is made of on one row or two; each is proved
 //!   to be its definition.
 //! - `given_to` is the row that an upsert leaves of another: what is given, then the presets.
 //!   `law_of_the_given_row` says in words what it has of each field.
-//! - `specs/Outcomes.antt` says in words what an accepted operation leaves (`Leaves`); that
-//!   `operated` does so is a law of `shop_soundness`.
+//! - `specs/Outcomes.antt` says in words what an accepted operation leaves, and that it keeps to
+//!   each rule that it is tried against (`Leaves`); that `operated` does so is a law of
+//!   `shop_soundness`.
 //! - `fixed_field` and `missing_required` are the refusals of a row alone, with the field of the
 //!   least name; `first_fixed` and `first_missing` find it without memory.
 //! - `refuse_reference` is the refusal of a reference, by `reference_name`; `gives`, `gives_part`

@@ -21,11 +21,13 @@ use Rattle.shop_defs.specs.Tables.{field_at, fields_of}
 use Rattle.shop_defs.proofs.EachLine.{IsLineOf, each_line, of_fields, numbered, preset_fits, same_entity}
 use Rattle.shop_defs.proofs.TableLaws.{counts_from, presets_are_values}
 use Rattle.shop_operations.specs.Deletes.{is_emptied, emptied}
+use Rattle.shop_operations.specs.Outcomes.{HasFieldsOnce}
 use Rattle.shop_operations.specs.Upserts.{field_number, field_name, give, fill, row_in, left, bare_row, missing_required}
+use Rattle.shop_operations.proofs.Fields.{given_rise, filled_rise}
 use Rattle.shop_soundness.specs.WellFormed.{IsWellFormed, AreWellFormed}
 use Rattle.shop_soundness.proofs.Accepted.{map_none, none_least}
 use Rattle.shop_soundness.proofs.Emptied.{never_emptied, stays_whole}
-use Rattle.shop_soundness.proofs.Gives.{Rises, given_rise, filled_rise, as_given, given_of, IsPresetOf, filled_of, filled_make}
+use Rattle.shop_soundness.proofs.Gives.{as_given, given_of, IsPresetOf, filled_of, filled_make}
 use Rattle.shop_soundness.proofs.InOrder.{ascends_filter}
 use Rattle.shop_soundness.proofs.Lefts.{row_before, was_there}
 use Rattle.shop_soundness.proofs.Lists.{each_of, of_each, find_of}
@@ -78,7 +80,7 @@ preset_fit entity field p =
 -- a row as its entity has it, but for what it lacks
 record IsOfKind (row : Row) : Type 0 where
   key : row_key_fits row.key ≡ true
-  rising : Rises row.fields
+  rising : HasFieldsOnce row
   fields : list_all (field_fits row.key.entity) row.fields ≡ true
   ops : row.ops ≡ []
 

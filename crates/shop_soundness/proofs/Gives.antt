@@ -4,9 +4,7 @@ use Rattle.std.specs.Prelude.{nat_eq, is_some, if◌then◌else◌}
 use Rattle.std.specs.List.{fold}
 use Rattle.std.specs.Ordering.{nat_cmp, is_eq}
 use Rattle.std.proofs.lemmas.Bool.{eqb-true, both_ways}
-use Rattle.std.proofs.lemmas.Cmp.{nat_cmp_total}
-use Rattle.keyed.specs.Keyed.{Ascends, without}
-use Rattle.keyed.proofs.Changes.{ascends_put, ascends_without}
+use Rattle.keyed.specs.Keyed.{without}
 use Rattle.closure.specs.Closure.{IsIn}
 use Rattle.shop_defs.specs.declared.table.FieldInfo.{FieldInfo}
 use Rattle.shop_defs.specs.declared.value.Value.{Value}
@@ -15,30 +13,6 @@ use Rattle.shop_defs.specs.Rows.{field_in}
 use Rattle.shop_operations.specs.Upserts.{field_number, give, fill}
 use Rattle.shop_operations.proofs.Fields.{put_same, give_other}
 use Rattle.shop_soundness.proofs.Lists.{put_of}
-
--- ---- each field once, by rising numbers
-
-abbrev pub Rises : List (ℕ × Value) → Type 0
-Rises fields = Ascends nat_cmp field_number fields
-
-give_rises : (fields : List (ℕ × Value)) (entry : ℕ × Option Value) → Rises fields → Rises (give fields entry)
-give_rises fields (number, None) up = ascends_without nat_cmp field_number nat_cmp_total fields number up
-give_rises fields (number, Some value) up = ascends_put nat_cmp field_number nat_cmp_total fields (number, value) up
-
-pub given_rise : (entries : List (ℕ × Option Value)) (fields : List (ℕ × Value)) → Rises fields → Rises (fold give fields entries)
-given_rise [] fields up = up
-given_rise (entry ∷ rest) fields up = given_rise rest (give fields entry) (give_rises fields entry up)
-
-fill_rises : (fields : List (ℕ × Value)) (info : FieldInfo) → Rises fields → Rises (fill fields info)
-fill_rises fields info up = by (is_some (field_in fields info.number))
-  where
-    by : (b : Bool) → Rises (if b then fields else give fields (info.number, preset_of info))
-    by true = up
-    by false = give_rises fields (info.number, preset_of info) up
-
-pub filled_rise : (table : List FieldInfo) (fields : List (ℕ × Value)) → Rises fields → Rises (fold fill fields table)
-filled_rise [] fields up = up
-filled_rise (info ∷ rest) fields up = filled_rise rest (fill fields info) (fill_rises fields info up)
 
 -- ---- where a field comes from
 

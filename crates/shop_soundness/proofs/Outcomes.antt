@@ -1,38 +1,49 @@
 -- An accepted operation leaves what its words say.
 use Rattle.std.proofs.Common.{◌≡◌, ℕ, suc, Bool, true, false, List, [], ◌∷◌, refl, sym, ap, subst, ◌∙◌, Option, Some, None}
-use Rattle.std.specs.Prelude.{◌&&◌, not, find, map, unwrap_or, is_some, Result, Ok, Err}
+use Rattle.std.specs.Prelude.{◌≤◌, ◌&&◌, ◌||◌, not, nat_lt, count_by, find, map, unwrap_or, is_none, is_some, if◌then◌else◌, Result, Ok, Err}
 use Rattle.std.specs.List.{list_any}
+use Rattle.std.specs.Option.{option_map}
 use Rattle.std.specs.declared.cmp.Ordering.{Ordering}
 use Rattle.std.specs.declared.cmp.Ordering.TheVariants.{Less, Equal, Greater}
 use Rattle.std.specs.Ordering.{match_ordering}
-use Rattle.std.proofs.lemmas.Bool.{and_from, and_parts, both_ways, eqb-true, eq-eqb, false≢true, false_from_ne_true}
+use Rattle.std.proofs.lemmas.Bool.{and_from, and_parts, both_ways, eqb-true, eq-eqb, false≢true, false_from_ne_true, ltb-false}
 use Rattle.keyed.proofs.Changes.{ascends_put}
 use Rattle.closure.specs.Closure.{IsIn}
 use Rattle.closure.proofs.Laws.{reached_is_least}
 use Rattle.closure.proofs.Members.{Found, any_is, any_of, in_filter, none_passes, of_filter}
 use Rattle.shop_defs.specs.declared.broken.Broken.{Broken}
+use Rattle.shop_defs.specs.declared.broken.Broken.TheVariants as B
+use Rattle.shop_defs.specs.declared.entity.Entity.{Entity}
 use Rattle.shop_defs.specs.declared.key.Key.{Key}
 use Rattle.shop_defs.specs.declared.op.Op.{Op}
 use Rattle.shop_defs.specs.declared.op.OpKind.{OpKind}
 use Rattle.shop_defs.specs.declared.op.OpKind.TheVariants.{Upsert, Delete}
 use Rattle.shop_defs.specs.declared.row.Row.{Row}
+use Rattle.shop_defs.specs.declared.table.FieldInfo.{FieldInfo}
+use Rattle.shop_defs.specs.declared.table.OwnerLimit.{OwnerLimit}
 use Rattle.shop_defs.specs.declared.table.Part.{Part}
 use Rattle.shop_defs.specs.declared.table.Part.TheVariants as P
-use Rattle.shop_defs.specs.declared.table.TheConstants.{REFERENCES}
-use Rattle.shop_defs.specs.Rows.{row_key}
+use Rattle.shop_defs.specs.declared.table.Reference.{Reference}
+use Rattle.shop_defs.specs.declared.table.TheConstants.{REFERENCES, LEVEL_LIMITS, OWNER_LIMITS, MOST_ROWS}
+use Rattle.shop_defs.specs.declared.value.Value.{Value}
+use Rattle.shop_defs.specs.Rows.{field_of, row_key}
+use Rattle.shop_defs.specs.Tables.{fields_of}
 use Rattle.shop_requests.specs.Operations.{reading}
 use Rattle.shop_operations.specs.Deletes.{stands_at, goes, gone, kept, in_use, is_field, is_emptied, emptied, deleted}
 use Rattle.shop_operations.specs.Operations.{place, by_kind, in_use_by, operated, removed}
-use Rattle.shop_operations.specs.Outcomes.{TakesWhatIsGiven, elsewhere, UpsertLeaves, NamesLost, LosesWhatIsLost, ArePaired, DeleteLeaves, Leaves}
-use Rattle.shop_operations.specs.References.{falls_with, holds_back, sets_null, ties}
-use Rattle.shop_operations.specs.Upserts.{bare_row, left, place_cmp, row_in, with_row}
+use Rattle.shop_operations.specs.Outcomes.{TakesWhatIsGiven, KeepsTheRules, elsewhere, UpsertLeaves, NamesLost, LosesWhatIsLost, ArePaired, DeleteLeaves, Leaves}
+use Rattle.shop_operations.specs.Parents.{is_below, is_deep}
+use Rattle.shop_operations.specs.References.{falls_with, holds_back, is_entity, sets_null, ties}
+use Rattle.shop_operations.specs.Upserts.{bare_row, count_of, field_name, gives_parent, is_of_owner, is_twin, left, missing_required, owner_is_full, parent_cycle, parent_too_deep, place_cmp, row_in, sinks, too_many, with_row}
+use Rattle.shop_operations.specs.Views.{View}
 use Rattle.shop_operations.proofs.Fields.{rows_take_what_is_given}
 use Rattle.shop_soundness.specs.Batches.{batch, if_read, numbered}
 use Rattle.shop_soundness.specs.Outcomes.{OperationsLeave, BatchLeaves, BatchesLeave}
-use Rattle.shop_soundness.proofs.Accepted.{accepted, same_rows}
+use Rattle.shop_soundness.proofs.Accepted.{IsUnbroken, accepted, fixed_agrees, given_met, map_none, none_least, same_rows}
 use Rattle.shop_soundness.proofs.Lefts.{left_place}
 use Rattle.shop_soundness.proofs.Lists.{filter_all, put_filter}
 use Rattle.shop_soundness.proofs.Places.{AtOnePlace, at_one_place, place_back, place_on, place_cmp_total, place_equal, place_stands, stands_place}
+use Rattle.shop_soundness.proofs.Values.{value_same}
 
 -- ---- upserts
 
@@ -66,9 +77,71 @@ left_takes : (rows : List Row) (key : Key) (op : Op) → TakesWhatIsGiven op (un
 unfolding left
 left_takes rows key op = rows_take_what_is_given op (unwrap_or (row_in rows key) (bare_row key))
 
-with_row_leaves : (rows : List Row) (key : Key) (op : Op) → UpsertLeaves key op rows (with_row rows (left rows key op))
-with_row_leaves rows key op =
-    record { row = left rows key op; is_there = found_put rows key (left rows key op) (left_place rows key op); given = left_takes rows key op; others = others_stay rows key (left rows key op) (left_place rows key op); in_order = ascends_put place_cmp row_key place_cmp_total rows (left rows key op) }
+-- a required field isn't null
+required_there : (row : Row) → missing_required row ≡ None → (field : FieldInfo) → IsIn field (fields_of row.key.entity) → field.marks.required ≡ true → is_some (field_of row field.number) ≡ true
+required_there row checked field i required = some_of (field_of row field.number) (rw required at none)
+  where
+    none : (field.marks.required && is_none (field_of row field.number)) ≡ false
+    none = none_least field_name (λ other. other.marks.required && is_none (field_of row other.number)) (fields_of row.key.entity) field (map_none _ _ checked) i
+
+    some_of : (value : Option Value) → is_none value ≡ false → is_some value ≡ true
+    some_of None e = cc
+    some_of (Some value) e = refl
+
+-- a row that is given a parent isn't below itself
+not_below : (rows : List Row) (op : Op) (row : Row) → parent_cycle rows op row ≡ None → gives_parent op ≡ true → is_below REFERENCES rows row row ≡ false
+not_below rows op row checked given = by (is_below REFERENCES rows row row) refl (rw given at checked)
+  where
+    by : (b : Bool) → is_below REFERENCES rows row row ≡ b → (if b then Some (B.ParentCycle row.key.id) else None) ≡ None → is_below REFERENCES rows row row ≡ false
+    by true e f = cc
+    by false e f = e
+
+-- nor does it, or a row below it, stand lower than it may
+not_sunk : (rows : List Row) (op : Op) (row : Row) → parent_too_deep rows op row ≡ None → gives_parent op ≡ true → (other : Row) → IsIn other rows → (stands_at row.key other || is_below REFERENCES rows row other) ≡ true → is_deep REFERENCES LEVEL_LIMITS rows other ≡ false
+not_sunk rows op row checked given other i below = false_from_ne_true (is_deep REFERENCES LEVEL_LIMITS rows other) (λ deep. both_ways (sinks rows row other) (none_passes (sinks rows row) rows other (ap is_some (map_none (λ r. B.ParentTooDeep r.key.id) _ none)) i) (and_from _ _ below deep))
+  where
+    none : option_map (λ r. B.ParentTooDeep r.key.id) (find (sinks rows row) rows) ≡ None
+    none = rw given at checked
+
+-- the limits on how many rows there are
+record AreFew (hidden : Entity → ℕ) (rows : List Row) (row : Row) : Type 0 where
+  all : count_of hidden rows row.key.entity ≤ MOST_ROWS
+  owned : (limit : OwnerLimit) → IsIn limit OWNER_LIMITS → is_entity limit.entity row.key.entity ≡ true → count_by (is_of_owner limit row) rows ≤ limit.most
+
+are_few : (hidden : Entity → ℕ) (rows : List Row) (row : Row) → too_many hidden rows row ≡ None → AreFew hidden rows row
+are_few hidden rows row checked = by (nat_lt MOST_ROWS (count_of hidden rows row.key.entity)) refl checked
+  where
+    under : find (owner_is_full rows row) OWNER_LIMITS ≡ None → (limit : OwnerLimit) → IsIn limit OWNER_LIMITS → is_entity limit.entity row.key.entity ≡ true → count_by (is_of_owner limit row) rows ≤ limit.most
+    under none limit i of =
+        let free = none_passes (owner_is_full rows row) OWNER_LIMITS limit (ap is_some none) i in
+        ltb-false limit.most (count_by (is_of_owner limit row) rows) (false_from_ne_true _ (λ full. both_ways (owner_is_full rows row limit) free (and_from _ _ of full)))
+
+    by : (b : Bool) → nat_lt MOST_ROWS (count_of hidden rows row.key.entity) ≡ b → (if b then Some (B.TooMany row.key.entity MOST_ROWS) else option_map (λ limit. B.TooMany row.key.entity limit.most) (find (owner_is_full rows row) OWNER_LIMITS)) ≡ None → AreFew hidden rows row
+    by true e f = cc
+    by false e f = record { all = ltb-false MOST_ROWS (count_of hidden rows row.key.entity) e; owned = under (map_none _ _ f) }
+
+-- a row that breaks none of the rules keeps to them
+keeps_the_rules : (view : View) (op : Op) (row : Row) → IsUnbroken view op row → KeepsTheRules op (row_in view.rows (place view op)) row (with_row view.rows row) view.hidden
+keeps_the_rules view op row free =
+    let rows = with_row view.rows row in
+    let few = are_few view.hidden rows row free.few in
+    record {
+      fixed = λ was e field i fixed. sym (value_same (field_of was field.number) (field_of row field.number) (fixed_agrees was row field (rw e at free.fixed) i fixed));
+      required = required_there row free.required;
+      met = λ reference i of given. (given_met rows op row reference free.referring i of given).met;
+      of_tree = λ reference i of given. (given_met rows op row reference free.referring i of given).of_tree;
+      single = λ other i. none_passes (is_twin row) rows other (ap is_some (map_none _ _ free.single)) i;
+      acyclic = not_below rows op row free.acyclic;
+      shallow = not_sunk rows op row free.shallow;
+      bounded = few.all;
+      few = few.owned;
+    }
+
+with_row_leaves : (view : View) (op : Op) → IsUnbroken view op (left view.rows (place view op) op) → UpsertLeaves view.hidden (place view op) op view.rows (with_row view.rows (left view.rows (place view op) op))
+with_row_leaves view op free =
+    let rows = view.rows in
+    let key = place view op in
+    record { row = left rows key op; is_there = found_put rows key (left rows key op) (left_place rows key op); given = left_takes rows key op; unbroken = keeps_the_rules view op (left rows key op) free; others = others_stay rows key (left rows key op) (left_place rows key op); in_order = ascends_put place_cmp row_key place_cmp_total rows (left rows key op) }
 
 -- ---- deletes
 
@@ -136,8 +209,10 @@ module _ (rows : List Row) (key : Key) where
           let none : list_any (holds_back REFERENCES row) (gone REFERENCES rows key) ≡ false = none_passes (λ r. list_any (holds_back REFERENCES r) (gone REFERENCES rows key)) (kept REFERENCES rows key) row (ap is_some e) (in_filter (λ r. not (goes REFERENCES rows key r)) rows row i (ap not stays)) in
           false_from_ne_true (holds_back REFERENCES row other) (λ h. both_ways (list_any (holds_back REFERENCES row) (gone REFERENCES rows key)) none (any_is (holds_back REFERENCES row) (gone REFERENCES rows key) other (in_filter (goes REFERENCES rows key) rows other j went) h))
 
-  deleted_leaves : in_use_by (in_use REFERENCES rows key) ≡ None → DeleteLeaves key rows (deleted REFERENCES rows key)
-  deleted_leaves free = record {
+  deleted_leaves : (replay : Bool) (row : Row) → row_in rows key ≡ Some row → in_use_by (in_use REFERENCES rows key) ≡ None → DeleteLeaves key replay rows (deleted REFERENCES rows key)
+  deleted_leaves replay row is free = record {
+    there = λ once. ap is_some is;
+    missing = λ none. absurd (false≢true (ap is_some (sym none ∙ is)));
     lost = goes REFERENCES rows key;
     are_lost = reached_is_least (falls_with REFERENCES) rows (stands_at key);
     stay = paired_map (LosesWhatIsLost rows (goes REFERENCES rows key)) (emptied REFERENCES (gone REFERENCES rows key)) (kept REFERENCES rows key) loses;
@@ -145,8 +220,10 @@ module _ (rows : List Row) (key : Key) where
   }
 
   -- where no row stands at the place, none is lost
-  nothing_leaves : row_in rows key ≡ None → DeleteLeaves key rows rows
+  nothing_leaves : row_in rows key ≡ None → DeleteLeaves key true rows rows
   nothing_leaves none = record {
+    there = λ once. cc;
+    missing = λ e. refl;
     lost = λ row. false;
     are_lost = record {
       closed = record { has_start = λ row i e. sym (none_passes (stands_at key) rows row (ap is_some none) i) ∙ e; has_next = λ row other i j e f. e };
@@ -172,20 +249,20 @@ pub operations_leave : OperationsLeave
 unfolding operated
 operations_leave view op replay rows e = by op.kind e
   where
-    upsert : by_kind view op replay Upsert ≡ Ok rows → UpsertLeaves (place view op) op view.rows rows
-    upsert f = subst (UpsertLeaves (place view op) op view.rows) (accepted view op rows f).rows_are (with_row_leaves view.rows (place view op) op)
+    upsert : by_kind view op replay Upsert ≡ Ok rows → UpsertLeaves view.hidden (place view op) op view.rows rows
+    upsert f = let done = accepted view op rows f in subst (UpsertLeaves view.hidden (place view op) op view.rows) done.rows_are (with_row_leaves view op done.unbroken)
 
-    missing : row_in view.rows (place view op) ≡ None → (b : Bool) → removed view op b None ≡ Ok rows → DeleteLeaves (place view op) view.rows rows
-    missing none true f = let same : view.rows ≡ rows = cc in subst (DeleteLeaves (place view op) view.rows) same (nothing_leaves view.rows (place view op) none)
+    missing : row_in view.rows (place view op) ≡ None → (b : Bool) → removed view op b None ≡ Ok rows → DeleteLeaves (place view op) b view.rows rows
+    missing none true f = let same : view.rows ≡ rows = cc in subst (DeleteLeaves (place view op) true view.rows) same (nothing_leaves view.rows (place view op) none)
     missing none false f = cc
 
-    found : (row : Option Row) → row_in view.rows (place view op) ≡ row → removed view op replay row ≡ Ok rows → DeleteLeaves (place view op) view.rows rows
+    found : (row : Option Row) → row_in view.rows (place view op) ≡ row → removed view op replay row ≡ Ok rows → DeleteLeaves (place view op) replay view.rows rows
     found None none f = missing none replay f
     found (Some row) is f =
         let same = same_rows (deleted REFERENCES view.rows (place view op)) rows (in_use_by (in_use REFERENCES view.rows (place view op))) f in
-        subst (DeleteLeaves (place view op) view.rows) same.1 (deleted_leaves view.rows (place view op) same.0)
+        subst (DeleteLeaves (place view op) replay view.rows) same.1 (deleted_leaves view.rows (place view op) replay row is same.0)
 
-    by : (kind : OpKind) → by_kind view op replay kind ≡ Ok rows → Leaves kind (place view op) op view.rows rows
+    by : (kind : OpKind) → by_kind view op replay kind ≡ Ok rows → Leaves kind view op replay rows
     by Upsert f = upsert f
     by Delete f = found (row_in view.rows (place view op)) refl f
 

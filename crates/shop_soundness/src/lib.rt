@@ -11,8 +11,9 @@
 //! - `formed`: each row is as its entity has it, and rows that operations may not write are just as
 //!   they were.
 //! - `origins`: no row and no value is made up. `start`: a view without rows is coherent.
-//! - `outcomes`: what an accepted operation leaves, in words (`Leaves` of `shop_operations`), and a
-//!   batch what its operations leave, one after the other.
+//! - `outcomes`: what an accepted operation leaves, in words (`Leaves` of `shop_operations`): the row
+//!   that an upsert leaves keeps to each rule that it is tried against, and without a replay a deleted
+//!   row was there. A batch leaves what its operations leave, one after the other.
 #![tactic(auto)]
 
 ghost use Rattle.shop_soundness.specs.Coherence.{NoRowsAreCoherent, OperationsKeepCoherence, BatchesKeepCoherence};
@@ -30,8 +31,9 @@ pub fn law_of_the_operations()
     ensures formed { OperationsKeepRows }
     // Each row was there or is the operation's, and each value was in its row, is given, or is a preset.
     ensures origins { OperationsMakeUpNothing }
-    // An upsert leaves the row at its place with what is given, and all other places as they were; a delete takes out just the
-    // least set that has the row and is closed under the cascades, and empties just the references that may be and name a lost row.
+    // An upsert leaves the row at its place with what is given, all other places as they were, and no rule broken that it is tried
+    // against: a fixed field keeps its value. A delete takes out just the least set that has the row and is closed under the
+    // cascades, and empties just the references that may be and name a lost row; the row was there, unless it is replayed.
     ensures outcomes { OperationsLeave }
 {}
 

@@ -9,7 +9,7 @@ use Rattle.shop_defs.specs.declared.refused.PlanFault.{PlanFault}
 use Rattle.shop_defs.specs.declared.refused.PlanFault.TheVariants as F
 use Rattle.shop_defs.specs.Joined.{Change}
 use Rattle.shop_defs.specs.Rows.{row_key}
-use Rattle.shop_operations.specs.Operations.{operated, place}
+use Rattle.shop_operations.specs.Operations.{operated}
 use Rattle.shop_operations.specs.Outcomes.{Leaves}
 use Rattle.shop_operations.specs.Views.{View, change_places}
 use Rattle.shop_rows.specs.Changing.{StandUnderTheirKeys, HasAscendingKeys}
@@ -36,6 +36,6 @@ Planned view op replay (Ok delta) = IsPlan view op replay delta.changes
 Planned view op replay (Err fault) = IsPlanFault view op replay fault
 
 -- what the changes leave of the view's rows is what an operation leaves, in words
-abbrev pub PlanLeaves : View → Op → Result Delta PlanFault → Type 0
-PlanLeaves view op (Ok delta) = Leaves op.kind (place view op) op view.rows (change_places view.rows delta.changes)
-PlanLeaves view op (Err fault) = Unit {0}
+abbrev pub PlanLeaves : View → Op → Bool → Result Delta PlanFault → Type 0
+PlanLeaves view op replay (Ok delta) = Leaves op.kind view op replay (change_places view.rows delta.changes)
+PlanLeaves view op replay (Err fault) = Unit {0}

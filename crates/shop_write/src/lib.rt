@@ -16,8 +16,8 @@
 //!   (`PlansBatch`, over `live_batch`): the changes make the live rows what the operations leave,
 //!   and leave the rows of drafts; their keys are live and ascend, and each row stands under its
 //!   key.
-//! - `plan_op` and `plan` say in words, too, what their changes leave (`PlanLeaves`,
-//!   `BatchPlanLeaves`, over `Leaves` of `shop_operations`).
+//! - `plan_op` and `plan` say in words, too, what their changes leave, and that it keeps to each
+//!   rule (`PlanLeaves`, `BatchPlanLeaves`, over `Leaves` of `shop_operations`).
 //! - `shop_core` calls `plan`; the others are there for drafts and merges. That nothing walks over
 //!   all rows is how it is written; no clause speaks of it.
 #![tactic(auto)]

@@ -28,7 +28,7 @@ pub fn plan_op<V: View>(alloc: Global, view: &V, op: &Op, replay: bool) -> Resul
     // The changes are those of the operation's definition, or the refusal is.
     ensures plan { Planned (V.seen view.now) op.now replay result }
     // What the changes leave, in words.
-    ensures leaves { PlanLeaves (V.seen view.now) op.now result }
+    ensures leaves { PlanLeaves (V.seen view.now) op.now replay result }
 {
     match op.kind {
         OpKind::Upsert => plan_upsert(alloc, view, op),
