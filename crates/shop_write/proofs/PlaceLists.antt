@@ -1,15 +1,16 @@
 -- Places in order, and how they are looked up.
 use Rattle.std.proofs.Common.{◌≡◌, ◌+◌, ◌<◌, ◌≤◌, ℕ, zero, suc, Bool, true, false, ◌&&◌, ◌||◌, List, [], ◌∷◌, Option, Some, None, Result, Ok, Err, length, get_or, refl, sym, ap, ◌∙◌, inl, inr, ◌⊎◌, arith, Bor}
-use Rattle.std.specs.Prelude.{◌==◌, cond, is_some, is_ok, OnOk, OnErr, option_copied}
+use Rattle.std.specs.Prelude.{◌==◌, cond, not, is_some, is_ok, IfOk, OnOk, OnErr, option_copied}
+use Rattle.std.specs.Bool.{OnFalse}
 use Rattle.std.specs.declared.cmp.Ordering.{Ordering}
 use Rattle.std.specs.declared.cmp.Ordering.TheVariants.{Less, Equal, Greater}
 use Rattle.std.specs.Cmp.{IsTotalOrder, both_tied, unsigned_ties}
 use Rattle.std.specs.Ordering.{nat_cmp, ordering_then, ordering_reverse, ordering_index, match_ordering, is_eq, is_lt}
-use Rattle.std.specs.BTreeSet.{replace_key}
+use Rattle.std.specs.BTreeSet.{insert_key, replace_key}
 use Rattle.std.specs.List.{list_any}
 use Rattle.std.specs.List.Sorted.{IsSearchInRange, IsBinarySearchResult, IsSortedBy, IsNonDecreasingBy}
 use Rattle.std.proofs.lemmas.List.Sorted.{searchable_from_sorted}
-use Rattle.std.proofs.lemmas.Bool.{or_left, or_right, cases_lt}
+use Rattle.std.proofs.lemmas.Bool.{or_left, or_right, or_parts, cases_lt, not-true}
 use Rattle.std.proofs.lemmas.Cmp.{on_total, then_total, nat_cmp_total}
 use Rattle.keyed.specs.Keyed.{find, put}
 use Rattle.keyed.proofs.Places.{less_by_place}
@@ -18,7 +19,7 @@ use Rattle.shop_defs.specs.declared.entity.Entity.{Entity}
 use Rattle.shop_defs.specs.declared.row.Row.{Row}
 use Rattle.shop_defs.specs.Entities.{entity_number}
 use Rattle.shop_write.specs.declared.place.Place.{Place}
-use Rattle.shop_write.specs.Places.{order, order_by_id, itself, Rise, row_place, is_at, stands_among, is_of_id, has_id}
+use Rattle.shop_write.specs.Places.{order, order_by_id, itself, Rise, row_place, is_at, stands_among, is_of_id, has_id, IsAdded}
 
 -- ---- the order of places
 
@@ -74,6 +75,38 @@ contained_is (x ∷ xs) row = rw (turned, contained_is xs row) refl
 
     turned : is_eq (order (row_place row) x) ≡ is_at row x
     turned = ap is_eq (order_total.antisymm (row_place row) x) ∙ (flips (order x (row_place row)) ∙ tied_at x row)
+
+-- to insert a new key into an ordered set is to put it into a list in order
+inserted_is : (places : List Place) (place : Place) → list_any (λ p. is_eq (order place p)) places ≡ false → insert_key order places place ≡ put order itself places place
+inserted_is [] place none = refl
+inserted_is (x ∷ xs) place none =
+    let parts = or_parts (is_eq (order place x)) (list_any (λ p. is_eq (order place p)) xs) none in
+    rw (order_total.antisymm x place) (by (inserted_is xs place parts.1) (order place x) refl parts.0)
+  where
+    by : insert_key order xs place ≡ put order itself xs place → (o : Ordering) → order place x ≡ o → is_eq o ≡ false → match_ordering o (place ∷ x ∷ xs) (x ∷ xs) (x ∷ insert_key order xs place) ≡ match_ordering (ordering_reverse o) (x ∷ put order itself xs place) (place ∷ xs) (place ∷ x ∷ xs)
+    by e Less f g = refl
+    by e Equal f g = cc
+    by e Greater f g = ap (λ ys. x ∷ ys) e
+
+-- what an insertion says of a row's place
+pub is_added : (places after : List Place) (row : Row) (fresh : Bool) → fresh ≡ not (list_any (λ p. is_eq (order (row_place row) p)) places) → OnFalse fresh (after ≡ places) → after ≡ insert_key order places (row_place row) → IsAdded row places after fresh
+is_added places after row true new same keys =
+    let none : list_any (λ p. is_eq (order (row_place row) p)) places ≡ false = not-true _ (sym new) in
+    (sym (contained_is places row) ∙ none, keys ∙ inserted_is places (row_place row) none)
+is_added places after row false known same keys = (sym (contained_is places row) ∙ was (list_any (λ p. is_eq (order (row_place row) p)) places) known, same)
+  where
+    was : (b : Bool) → false ≡ not b → b ≡ true
+    was true e = refl
+    was false e = cc
+
+rise_added : (places after : List Place) (row : Row) (fresh : Bool) → Rise places → IsAdded row places after fresh → Rise after
+rise_added places after row true up added = rw added.1 (ascends_put order itself order_total places (row_place row) up)
+rise_added places after row false up added = rw added.1 up
+
+pub rise_inserted : {E : Type 0} (before after : List Place) (row : Row) (r : Result Bool E) → Rise before
+    → IfOk r (λ fresh. fresh ≡ not (list_any (λ p. is_eq (order (row_place row) p)) before)) → IfOk r (λ fresh. OnFalse fresh (after ≡ before)) → OnOk r (after ≡ insert_key order before (row_place row)) → OnErr r (after ≡ before) → Rise after
+rise_inserted before after row (Ok fresh) up added same keys err = rise_added before after row fresh up (is_added before after row fresh added same keys)
+rise_inserted before after row (Err e) up added same keys err = rw err up
 
 -- ---- look-ups
 

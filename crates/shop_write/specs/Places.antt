@@ -1,9 +1,9 @@
 -- Places of rows, in order.
-use Rattle.std.specs.Prelude.{ℕ, Bool, ◌==◌, ◌&&◌, List}
+use Rattle.std.specs.Prelude.{◌≡◌, ℕ, Bool, true, false, ◌==◌, ◌&&◌, List}
 use Rattle.std.specs.List.{list_any}
 use Rattle.std.specs.declared.cmp.Ordering.{Ordering}
 use Rattle.std.specs.Ordering.{nat_cmp, ordering_then}
-use Rattle.keyed.specs.Keyed.{Ascends}
+use Rattle.keyed.specs.Keyed.{Ascends, put}
 use Rattle.shop_defs.specs.declared.entity.Entity.{Entity}
 use Rattle.shop_defs.specs.declared.key.Key.{Key}
 use Rattle.shop_defs.specs.declared.row.Row.{Row}
@@ -45,6 +45,11 @@ is_at row place = is_entity place.entity row.key.entity && (place.id == row.key.
 -- the row stands at one of the places
 unfoldable pub stands_among : List Place → Row → Bool
 stands_among places row = list_any (is_at row) places
+
+-- the row's place was put where it wasn't there yet, and where it was all is as before
+abbrev pub IsAdded : Row → List Place → List Place → Bool → Type 0
+IsAdded row before after true = (stands_among before row ≡ false) × (after ≡ put order itself before (row_place row))
+IsAdded row before after false = (stands_among before row ≡ true) × (after ≡ before)
 
 -- the place is of the entity and has the id
 abbrev pub is_of_id : Entity → ℕ → Place → Bool

@@ -140,11 +140,15 @@ impl Gathered {
         }
     }
 
-    /// Whether the row stands at one of the places.
-    pub(crate) fn has(&self, row: &Row) -> bool
-        ensures { result ≡ spec.stands_among self.now row.now }
+    /// Puts the row's place among the others, and tells whether it wasn't there yet: one search says
+    /// both.
+    pub(crate) fn add(&mut self, row: &Row) -> Result<bool, NoMemory>
+        ensures { IfOk result (λ fresh. spec.IsAdded row.now self.old self.new fresh) }
     {
-        self.places.contains(&Place::of(&row.key))
+        match self.places.insert(Place::of(&row.key)) {
+            Ok(fresh) => Ok(fresh),
+            Err(_) => Err(NoMemory),
+        }
     }
 
     /// The places in order.

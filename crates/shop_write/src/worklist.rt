@@ -111,10 +111,10 @@ fn note(row: &Row, key: &Key, search: &mut Search) -> Result<(), NoMemory>
         search.near.put(place)?;
         return Ok(());
     }
-    if search.lost.has(row) {
+    let fresh = search.lost.add(row)?;
+    if !fresh {
         return Ok(());
     }
-    search.lost.put(place)?;
     search.pending.push(place)?;
     Ok(())
 }
