@@ -1,6 +1,7 @@
 -- Rows with the same unique fields have the same fingerprint.
-use Rattle.std.proofs.Common.{◌≡◌, ℕ, ℤ, Bool, true, false, not, ◌&&◌, ◌||◌, List, [], ◌∷◌, Option, Some, None, if◌then◌else◌, refl, sym, ap, ◌∙◌}
-use Rattle.std.specs.List.{fold, list_all}
+use Rattle.std.proofs.Common.{◌≡◌, ℕ, ℤ, Bool, true, false, not, ◌&&◌, ◌||◌, List, [], ◌∷◌, ◌++◌, Option, Some, None, is_some, if◌then◌else◌, refl, sym, ap, ◌∙◌}
+use Rattle.std.specs.Int.{w128, to_be_bytes}
+use Rattle.std.specs.List.{flat_map, list_all}
 use Rattle.std.proofs.lemmas.Bool.Decides.{Decides-int_eq}
 use Rattle.std.proofs.lemmas.Slice.Eq.{bytes_eq-Decides}
 use borrow.Author.Tests.{eqb-true}
@@ -9,13 +10,14 @@ use Rattle.shop_defs.specs.declared.row.Row.{Row}
 use Rattle.shop_defs.specs.declared.table.FieldInfo.{FieldInfo}
 use Rattle.shop_defs.specs.declared.value.Value.{Value}
 use Rattle.shop_defs.specs.declared.value.Value.TheVariants as V
+use Rattle.shop_defs.specs.Entities.{entity_number}
 use Rattle.shop_defs.specs.Rows.{field_of}
 use Rattle.shop_defs.specs.Tables.{fields_of}
 use Rattle.shop_defs.proofs.EachLine.{same_entity}
 use Rattle.shop_operations.specs.Deletes.{stands_at}
 use Rattle.shop_operations.specs.References.{is_entity}
 use Rattle.shop_operations.specs.Upserts.{same_value, same_given, has_unique, agree_in_unique, is_twin}
-use Rattle.shop_rows.specs.Prints.{with_value, with_field, start_print, print_in, print_of}
+use Rattle.shop_rows.specs.Prints.{given_bytes, field_bytes, message, has_where_unique, has_print, half_digest, print_in, print_of}
 
 and_first : (a b : Bool) → (a && b) ≡ true → a ≡ true
 and_first true b e = refl
@@ -66,36 +68,37 @@ pub record ShareAt (one two : Option ℕ) : Type 0 where
   pub first : one ≡ Some print
   pub second : two ≡ Some print
 
+-- a field, or several, that both rows have where they are unique, with the same bytes
+record Share (one two : Bool) (bytes other : List ℕ) : Type 0 where
+  first : one ≡ true
+  second : two ≡ true
+  same : bytes ≡ other
+
 -- a value that is given and the same in both rows
-given_shared : (print : ℕ) (a b : Option Value) → same_given a b ≡ true → ShareAt (with_value print a) (with_value print b)
-given_shared print None b e = absurd (cc)
-given_shared print (Some a) b e = let same : Some a ≡ b = value_is (Some a) b e in record { print = _; first = refl; second = ap (with_value print) (sym same) }
+given_share : (a b : Option Value) → same_given a b ≡ true → Share (is_some a) (is_some b) (given_bytes a) (given_bytes b)
+given_share None b e = absurd (cc)
+given_share (Some a) b e = let same : Some a ≡ b = value_is (Some a) b e in record { first = refl; second = ap is_some (sym same); same = ap given_bytes same }
 
-fields_shared : (fields : List FieldInfo) (row other : Row) (print : ℕ) → list_all (λ field. not field.marks.unique || same_given (field_of row field.number) (field_of other field.number)) fields ≡ true
-    → ShareAt (fold (with_field row) (Some print) fields) (fold (with_field other) (Some print) fields)
-fields_shared [] row other print e = record { print = print; first = refl; second = refl }
-fields_shared (field ∷ fields) row other print e = by field.marks.unique refl (λ p. fields_shared fields row other p (and_second _ _ e))
-  where
-    go_on : (a b : Option ℕ) → ShareAt a b → ((p : ℕ) → ShareAt (fold (with_field row) (Some p) fields) (fold (with_field other) (Some p) fields)) → ShareAt (fold (with_field row) a fields) (fold (with_field other) b fields)
-    go_on a b share more =
-        let rest = more share.print in
-        record {
-          print = rest.print;
-          first = ap (λ (p : Option ℕ). fold (with_field row) p fields) share.first ∙ rest.first;
-          second = ap (λ (p : Option ℕ). fold (with_field other) p fields) share.second ∙ rest.second;
-        }
+field_share : (unique : Bool) (a b : Option Value) → (not unique || same_given a b) ≡ true
+    → Share (not unique || is_some a) (not unique || is_some b) (if unique then given_bytes a else []) (if unique then given_bytes b else [])
+field_share true a b e = given_share a b e
+field_share false a b e = record { first = refl; second = refl; same = refl }
 
-    at_field : (b : Bool) → (not b || same_given (field_of row field.number) (field_of other field.number)) ≡ true
-        → ShareAt (if b then with_value print (field_of row field.number) else Some print) (if b then with_value print (field_of other field.number) else Some print)
-    at_field true e = given_shared print (field_of row field.number) (field_of other field.number) e
-    at_field false e = record { print = print; first = refl; second = refl }
+fields_share : (fields : List FieldInfo) (row other : Row) → list_all (λ field. not field.marks.unique || same_given (field_of row field.number) (field_of other field.number)) fields ≡ true
+    → Share (list_all (has_where_unique row) fields) (list_all (has_where_unique other) fields) (flat_map (field_bytes row) fields) (flat_map (field_bytes other) fields)
+fields_share [] row other e = record { first = refl; second = refl; same = refl }
+fields_share (field ∷ fields) row other e =
+    let here = field_share field.marks.unique (field_of row field.number) (field_of other field.number) (and_first _ _ e) in
+    let rest = fields_share fields row other (and_second _ _ e) in
+    record {
+      first = (λ i. here.first i && rest.first i);
+      second = (λ i. here.second i && rest.second i);
+      same = (λ i. here.same i ++ rest.same i);
+    }
 
-    by : (b : Bool) → field.marks.unique ≡ b → ((p : ℕ) → ShareAt (fold (with_field row) (Some p) fields) (fold (with_field other) (Some p) fields)) → ShareAt (fold (with_field row) (Some print) (field ∷ fields)) (fold (with_field other) (Some print) (field ∷ fields))
-    by b is more = go_on (with_field row (Some print) field) (with_field other (Some print) field) (at_field field.marks.unique (and_first _ _ e)) more
-
--- the fingerprint of a row as of an entity, from a start
+-- the fingerprint of a row as of an entity and a version
 abbrev print_from : Entity → ℕ → Row → Option ℕ
-print_from entity start row = if has_unique entity then fold (with_field row) (Some start) (fields_of entity) else None
+print_from entity version row = if has_unique entity && list_all (has_where_unique row) (fields_of entity) then Some (half_digest ((entity_number entity ∷ to_be_bytes w128 version) ++ flat_map (field_bytes row) (fields_of entity))) else None
 
 -- a twin has the fingerprint that the row has in the twin's version
 pub twins_share : (version : ℕ) (row other : Row) → other.key.version ≡ version → is_twin row other ≡ true → ShareAt (print_in version row) (print_of other)
@@ -106,10 +109,10 @@ twins_share version row other same_version twin =
     let unique : has_unique row.key.entity ≡ true = and_second (is_entity row.key.entity other.key.entity && not (stands_at row.key other)) (has_unique row.key.entity) parts in
     let entities : is_entity row.key.entity other.key.entity ≡ true = and_first (is_entity row.key.entity other.key.entity) (not (stands_at row.key other)) (and_first (is_entity row.key.entity other.key.entity && not (stands_at row.key other)) (has_unique row.key.entity) parts) in
     let same : row.key.entity ≡ other.key.entity = same_entity row.key.entity other.key.entity (eqb-true _ _ entities) in
-    let start : start_print other.key.entity other.key.version ≡ start_print row.key.entity version = λ i. start_print (sym same i) (same_version i) in
-    let share = fields_shared (fields_of row.key.entity) row other (start_print row.key.entity version) agree in
+    let share = fields_share (fields_of row.key.entity) row other agree in
+    let digest : List ℕ → ℕ = λ bytes. half_digest ((entity_number row.key.entity ∷ to_be_bytes w128 version) ++ bytes) in
     record {
-      print = share.print;
-      first = ap (λ (b : Bool). if b then fold (with_field row) (Some (start_print row.key.entity version)) (fields_of row.key.entity) else None) unique ∙ share.first;
-      second = (λ i. print_from (sym same i) (start i) other) ∙ (ap (λ (b : Bool). if b then fold (with_field other) (Some (start_print row.key.entity version)) (fields_of row.key.entity) else None) unique ∙ share.second);
+      print = digest (flat_map (field_bytes row) (fields_of row.key.entity));
+      first = (λ i. if unique i && share.first i then Some (digest (flat_map (field_bytes row) (fields_of row.key.entity))) else None);
+      second = (λ i. print_from (sym same i) (same_version i) other) ∙ (λ i. if unique i && share.second i then Some (digest (sym share.same i)) else None);
     }

@@ -24,7 +24,7 @@ pub(crate) enum Topic {
         id: u128,
     },
     /// The row's entity, version and unique fields, none of them null, have that fingerprint.
-    HasPrint(u64),
+    HasPrint(u128),
 }
 
 impl Topic {
