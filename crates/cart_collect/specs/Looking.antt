@@ -1,32 +1,32 @@
 -- How rows are found by look-ups. No public contract cites this.
-use Rattle.std.specs.Prelude.{ℕ, Bool, ◌==◌, ◌&&◌, List, [], ◌∷◌, filter, Option, None, if◌then◌else◌, option_and_then, Some}
-use Rattle.std.specs.List.{filter_map, list_any}
+use Rattle.std.specs.Prelude.{ℕ, Bool, true, false, ◌==◌, ◌&&◌, List, [], ◌∷◌, Option, None, if◌then◌else◌, option_and_then, Some}
+use Rattle.std.specs.List.{filter_map}
 use Rattle.keyed.specs.Keyed.{put}
 use Rattle.shop_defs.specs.declared.entity.Entity.{Entity}
 use Rattle.shop_defs.specs.declared.key.Key.{Key}
 use Rattle.shop_defs.specs.declared.row.Row.{Row}
-use Rattle.shop_defs.specs.declared.table.TheConstants.{REFERENCES}
 use Rattle.shop_defs.specs.Entities.{entity_number}
 use Rattle.shop_defs.specs.Rows.{row_at}
-use Rattle.shop_operations.specs.References.{is_entity, live, refers_at, referrers}
-use Rattle.shop_rows.specs.Lookups.{first_above}
+use Rattle.shop_operations.specs.References.{is_entity, live}
+use Rattle.shop_rows.specs.Lookups.{first_above, referrers_by}
 use Rattle.cart_collect.specs.declared.ranks.Rank.{Rank}
 use Rattle.cart_collect.specs.Ranks.{rank_cmp}
 
--- the row at the key, where it is of the entity
-abbrev pub row_of_at : List Row → Entity → Key → Option Row
-row_of_at rows entity key = if is_entity key.entity entity then row_at rows key else None
+-- the rows at the keys
+abbrev pub rows_at : List Row → List Key → List Row
+rows_at rows keys = filter_map (row_at rows) keys
 
-abbrev pub rows_of_at : List Row → Entity → List Key → List Row
-rows_of_at rows entity keys = filter_map (row_of_at rows entity) keys
+-- the live rows of the entity that refer to the one of the other entity with that id
+abbrev pub referring_rows : List Row → Entity → Entity → ℕ → List Row
+referring_rows rows entity of id = rows_at rows (referrers_by entity (live rows) (entity_number of) id)
 
--- one of the keys is of the entity
-abbrev pub has_entity : Entity → List Key → Bool
-has_entity entity keys = list_any (λ key. is_entity key.entity entity) keys
+abbrev pub has_any : List Key → Bool
+has_any [] = false
+has_any (key ∷ keys) = true
 
--- the keys of the live rows that refer to the one with that id
-abbrev pub referring_keys : List Row → Entity → ℕ → List Key
-referring_keys rows of id = referrers REFERENCES (live rows) (entity_number of) id
+-- there is such a row
+abbrev pub is_referred : List Row → Entity → Entity → ℕ → Bool
+is_referred rows entity of id = has_any (referrers_by entity (live rows) (entity_number of) id)
 
 -- both keys are of one entity and one version
 abbrev pub is_beside : Key → Key → Bool

@@ -10,7 +10,7 @@ ghost use Rattle.cart_collect.specs.Finding as finding;
 ghost use Rattle.cart_collect.specs.Ordered.{AreInOrder};
 
 use crate::fault::CollectFault;
-use crate::finding::{in_order, live_at, referring_keys, rows_of_at};
+use crate::finding::{in_order, live_at, referring_rows};
 use crate::line::lent_lines;
 use crate::numbers::{CART_LANGUAGE, CART_METHOD, METHOD_TAX};
 use crate::ordering::{lines_of, promotions_of};
@@ -80,8 +80,7 @@ fn codes_of<'a>(alloc: Global, rows: &'a Rows, cart: u128) -> Result<List<&'a Ro
     ensures { IfOk result (λ codes. lent_rows codes ≡ finding.naming rows.entry.now.list E.CartCode N.Cart cart) }
 {
     in_order(rows);
-    let keys = referring_keys(alloc, rows, Entity::Cart, cart)?;
-    rows_of_at(alloc, rows, Entity::CartCode, keys.as_slice())
+    referring_rows(alloc, rows, Entity::CartCode, Entity::Cart, cart)
 }
 
 /// The price rows of the method, if there is one.
@@ -103,8 +102,13 @@ fn prices_of<'a>(alloc: Global, rows: &'a Rows, method: u128) -> Result<List<&'a
     ensures { IfOk result (λ prices. lent_rows prices ≡ finding.naming rows.entry.now.list E.ShippingPrice N.Method method) }
 {
     in_order(rows);
-    let keys = referring_keys(alloc, rows, Entity::ShippingMethod, method)?;
-    rows_of_at(alloc, rows, Entity::ShippingPrice, keys.as_slice())
+    referring_rows(
+        alloc,
+        rows,
+        Entity::ShippingPrice,
+        Entity::ShippingMethod,
+        method,
+    )
 }
 
 /// The id of the method's tax.

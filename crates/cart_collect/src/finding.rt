@@ -40,44 +40,55 @@ pub(crate) fn live_at<'a>(rows: &'a Rows, entity: Entity, id: Option<u128>) -> O
     }
 }
 
-/// The keys of the live rows that refer to the one of that entity with that id.
-pub(crate) fn referring_keys(
-    alloc: Global,
-    rows: &Rows,
-    of: Entity,
-    id: u128,
-) -> Result<List<Key>, NoMemory>
-    ensures { IfOk result (λ keys. keys ≡ looking.referring_keys rows.now.list of id) }
-{
-    rows.referrers_of(alloc, &live_key(of, id))
-}
-
-/// The rows at those of the keys that are of the entity.
-pub(crate) fn rows_of_at<'a>(
+/// The live rows of the entity that refer to the one of the other entity with that id. It costs a
+/// look-up for each of them, whatever else refers to that row.
+pub(crate) fn referring_rows<'a>(
     alloc: Global,
     rows: &'a Rows,
     entity: Entity,
-    keys: &[Key],
+    of: Entity,
+    id: u128,
 ) -> Result<List<&'a Row>, NoMemory>
-    ensures { IfOk result (λ found. lent_rows found ≡ looking.rows_of_at rows.entry.now.list entity keys.now) }
+    ensures { IfOk result (λ found. lent_rows found ≡ looking.referring_rows rows.entry.now.list entity of id) }
+{
+    let keys = rows.referrers_by(alloc, entity, 0, &live_key(of, id))?;
+    rows_at(alloc, rows, keys.as_slice())
+}
+
+/// Whether there is such a row.
+pub(crate) fn is_referred(
+    alloc: Global,
+    rows: &Rows,
+    entity: Entity,
+    of: Entity,
+    id: u128,
+) -> Result<bool, NoMemory>
+    ensures { IfOk result (λ any. any ≡ looking.is_referred rows.now.list entity of id) }
+{
+    let keys = rows.referrers_by(alloc, entity, 0, &live_key(of, id))?;
+    Ok(has_any(keys.as_slice()))
+}
+
+fn has_any(keys: &[Key]) -> bool
+    ensures { result ≡ looking.has_any keys.now }
+{
+    match keys {
+        [] => false,
+        _ => true,
+    }
+}
+
+/// The rows at the keys.
+fn rows_at<'a>(alloc: Global, rows: &'a Rows, keys: &[Key]) -> Result<List<&'a Row>, NoMemory>
+    ensures { IfOk result (λ found. lent_rows found ≡ looking.rows_at rows.entry.now.list keys.now) }
 {
     let mut found = Vec::new(alloc);
     let mut rest = keys;
     while let [key, more @ ..] = rest {
-        push_if_any(&mut found, row_of_at(rows, entity, key))?;
+        push_if_any(&mut found, rows.get(key))?;
         rest = more;
     }
     Ok(List::from_vec(found))
-}
-
-/// The row at the key, where it is of the entity.
-fn row_of_at<'a>(rows: &'a Rows, entity: Entity, key: &Key) -> Option<&'a Row>
-    ensures { option_copied result ≡ looking.row_of_at rows.entry.now.list entity key.now }
-{
-    if key.entity == entity {
-        return rows.get(key);
-    }
-    None
 }
 
 /// Puts a row at the end, if there is one.
@@ -91,18 +102,4 @@ pub(crate) fn push_if_any<'a>(
         Some(row) => Ok(found.push(row)?),
         None => Ok(()),
     }
-}
-
-/// Whether one of the keys is of the entity.
-pub(crate) fn has_entity(entity: Entity, keys: &[Key]) -> bool
-    ensures { result ≡ looking.has_entity entity keys.now }
-{
-    let mut rest = keys;
-    while let [key, more @ ..] = rest {
-        if key.entity == entity {
-            return true;
-        }
-        rest = more;
-    }
-    false
 }

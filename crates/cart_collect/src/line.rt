@@ -6,14 +6,13 @@ ghost use Rattle.shop_defs.specs.declared.entity.Entity.TheVariants as E;
 ghost use Rattle.shop_defs.specs.declared.words.FieldName.TheVariants as N;
 ghost use Rattle.cart_collect.specs.Collected as spec;
 ghost use Rattle.cart_collect.specs.Finding.{naming};
-ghost use Rattle.cart_collect.specs.Looking.{referring_keys as keys_of};
 
-use crate::finding::{has_entity, in_order, live_at, referring_keys, rows_of_at};
+use crate::finding::{in_order, is_referred, live_at, referring_rows};
 use crate::numbers::{LINE_PRODUCT, PRODUCT_PARENT, PRODUCT_TAX, TRANSLATED_NAME};
 use cart_price::LentLine;
 use row_fields::id_at;
 use shop_chain::{Chain, effective, text_of};
-use shop_defs::{Entity, Key, List, NoMemory, Row, Value};
+use shop_defs::{Entity, List, NoMemory, Row, Value};
 use shop_rows::Rows;
 use std::alloc::Global;
 
@@ -77,13 +76,13 @@ fn with_product<'a>(
     ensures { IfOk result (λ lent. line_rows lent ≡ spec.by_product rows.entry.now.list chain.now line.entry.now (Some product.entry.now)) }
 {
     let parent = live_at(rows, Entity::Product, id_at(product, PRODUCT_PARENT));
-    let keys = referring_keys(alloc, rows, Entity::Product, product.key.id)?;
-    let prices = prices_of(alloc, rows, keys.as_slice(), product.key.id, parent)?;
+    let prices = prices_of(alloc, rows, product.key.id, parent)?;
+    let has_variants = has_variants(alloc, rows, product.key.id)?;
     Ok(LentLine {
         line,
         product: Some(product),
         parent,
-        has_variants: has_entity(Entity::Product, keys.as_slice()),
+        has_variants,
         prices,
         tax: live_at(rows, Entity::Tax, tax_id(product, parent)),
         listed: None,
@@ -91,21 +90,24 @@ fn with_product<'a>(
     })
 }
 
-/// The price rows that count: those of the product, to which the keys refer, and where it has none
-/// its parent's.
+/// Whether the product with that id has variants.
 #[tactic(auto, using(crate::proofs::Naming::found))]
+fn has_variants(alloc: Global, rows: &Rows, product: u128) -> Result<bool, NoMemory>
+    ensures { IfOk result (λ any. any ≡ spec.is_any (naming rows.now.list E.Product N.Parent product)) }
+{
+    is_referred(alloc, rows, Entity::Product, Entity::Product, product)
+}
+
+/// The price rows that count: those of the product, and where it has none its parent's.
 fn prices_of<'a>(
     alloc: Global,
     rows: &'a Rows,
-    keys: &[Key],
     product: u128,
     parent: Option<&Row>,
 ) -> Result<List<&'a Row>, NoMemory>
-    requires { keys.now ≡ keys_of rows.now.list E.Product product }
     ensures { IfOk result (λ prices. lent_rows prices ≡ spec.or_parents rows.entry.now.list (option_copied parent.entry) (naming rows.entry.now.list E.ProductPrice N.Product product)) }
 {
-    in_order(rows);
-    let own = rows_of_at(alloc, rows, Entity::ProductPrice, keys)?;
+    let own = own_prices(alloc, rows, product)?;
     if !own.is_empty() {
         return Ok(own);
     }
@@ -121,8 +123,7 @@ fn own_prices<'a>(alloc: Global, rows: &'a Rows, product: u128) -> Result<List<&
     ensures { IfOk result (λ prices. lent_rows prices ≡ naming rows.entry.now.list E.ProductPrice N.Product product) }
 {
     in_order(rows);
-    let keys = referring_keys(alloc, rows, Entity::Product, product)?;
-    rows_of_at(alloc, rows, Entity::ProductPrice, keys.as_slice())
+    referring_rows(alloc, rows, Entity::ProductPrice, Entity::Product, product)
 }
 
 /// The id of the tax that counts.

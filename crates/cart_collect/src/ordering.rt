@@ -5,7 +5,7 @@ ghost use Rattle.cart_collect.specs.Collected as spec;
 ghost use Rattle.cart_collect.specs.Looking as looking;
 ghost use Rattle.cart_collect.specs.Ranks as ranking;
 
-use crate::finding::{in_order, push_if_any, referring_keys, rows_of_at};
+use crate::finding::{in_order, push_if_any, referring_rows};
 use crate::numbers::{LINE_POSITION, PROMOTION_PRIORITY};
 use crate::ranks::Rank;
 use crate::walking::live_rows;
@@ -23,8 +23,7 @@ pub(crate) fn lines_of<'a>(
     ensures { IfOk result (λ lines. lent_rows lines ≡ spec.lines_of rows.entry.now.list cart) }
 {
     in_order(rows);
-    let keys = referring_keys(alloc, rows, Entity::Cart, cart)?;
-    let lines = rows_of_at(alloc, rows, Entity::CartLine, keys.as_slice())?;
+    let lines = referring_rows(alloc, rows, Entity::CartLine, Entity::Cart, cart)?;
     let mut ranks = line_ranks(alloc, lines.as_slice())?;
     rank(&mut ranks);
     rows_at_ranks(alloc, rows, ranks.as_slice())

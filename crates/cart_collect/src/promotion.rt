@@ -3,7 +3,7 @@ ghost use Rattle.std.specs.Prelude.{◌≡◌, map, IfOk};
 ghost use Rattle.cart_price.specs.Lent.{lent_rows, promotion_rows};
 ghost use Rattle.cart_collect.specs.Collected as spec;
 
-use crate::finding::{in_order, referring_keys, rows_of_at};
+use crate::finding::{in_order, referring_rows};
 use cart_price::LentPromotion;
 use shop_defs::{Entity, List, NoMemory, Row};
 use shop_rows::Rows;
@@ -35,8 +35,13 @@ fn lent_promotion<'a>(
     ensures { IfOk result (λ lent. promotion_rows lent ≡ spec.promotion_of rows.entry.now.list promotion.entry.now) }
 {
     in_order(rows);
-    let keys = referring_keys(alloc, rows, Entity::Promotion, promotion.key.id)?;
-    let discounts = rows_of_at(alloc, rows, Entity::PromotionDiscount, keys.as_slice())?;
+    let discounts = referring_rows(
+        alloc,
+        rows,
+        Entity::PromotionDiscount,
+        Entity::Promotion,
+        promotion.key.id,
+    )?;
     Ok(LentPromotion {
         promotion,
         discounts,

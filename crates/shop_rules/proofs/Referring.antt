@@ -4,7 +4,7 @@ use Rattle.std.specs.declared.cmp.Ordering.TheVariants.{Less}
 use Rattle.std.specs.Prelude.{option_and_then}
 use Rattle.std.specs.List.{AllByRecursion, list_any, cons_option}
 use Rattle.std.specs.Option.{option_to_list}
-use Rattle.std.proofs.lemmas.Bool.{eqb-true}
+use Rattle.std.proofs.lemmas.Bool.{eqb-true, eq-eqb}
 use Rattle.shop_defs.specs.declared.entity.Entity.TheVariants as E
 use Rattle.shop_defs.specs.declared.key.Key.{Key}
 use Rattle.shop_defs.specs.declared.row.Row.{Row}
@@ -15,13 +15,14 @@ use Rattle.shop_defs.specs.declared.words.FieldName.TheVariants as N
 use Rattle.shop_defs.specs.Entities.{entity_number}
 use Rattle.shop_defs.specs.Keys.{key_cmp}
 use Rattle.shop_defs.specs.References.{acts_on_delete}
-use Rattle.shop_defs.specs.Rows.{row_key, field_of, IsInKeyOrder}
+use Rattle.shop_defs.specs.Rows.{row_at, row_key, field_of, IsInKeyOrder}
 use Rattle.shop_defs.proofs.Keys.{key_cmp_total}
-use Rattle.shop_operations.specs.References.{is_entity, is_id, is_live, live, ident, part_of, refers_at, referrers}
+use Rattle.shop_operations.specs.References.{is_entity, is_id, is_live, live, ident, part_of, refers_at}
+use Rattle.shop_rows.specs.Lookups.{referrers_by}
 use Rattle.shop_rows.proofs.Same.{itself_equal}
 use Rattle.row_fields.specs.Fields.{number_of, id_in, id_at}
 use Rattle.shop_rules.specs.Conditions.{conditions}
-use Rattle.shop_rules.specs.Reading.{condition_at, conditions_at}
+use Rattle.shop_rules.specs.Reading.{rows_at}
 use Rattle.shop_rules.proofs.FieldNumbers.{condition_rule}
 
 -- ---- a condition refers to its rule, and to no other
@@ -47,28 +48,28 @@ refers row rule is =
 abbrev is_condition : Row → Bool
 is_condition row = is_entity row.key.entity E.RuleCondition
 
--- the tests agree on conditions
-same_test : (row : Row) (rule : ℕ) → (refers_at REFERENCES row (entity_number E.Rule) rule && is_condition row) ≡ (is_condition row && is_id (id_at row (number_of E.RuleCondition N.Rule)) rule)
-same_test row rule = by (is_condition row) refl
+same_bool : (a b : Bool) → (a ≡ true → b ≡ true) → (b ≡ true → a ≡ true) → a ≡ b
+same_bool true b there back = sym (there refl)
+same_bool false true there back = back refl
+same_bool false false there back = refl
+
+flip_eq : (a b : ℕ) → (a == b) ≡ (b == a)
+flip_eq a b = same_bool (a == b) (b == a) (λ e. eq-eqb _ _ (sym (eqb-true _ _ e))) (λ e. eq-eqb _ _ (sym (eqb-true _ _ e)))
+
+-- the tests agree
+same_test : (row : Row) (rule : ℕ) → (is_entity E.RuleCondition row.key.entity && refers_at REFERENCES row (entity_number E.Rule) rule) ≡ (is_condition row && is_id (id_at row (number_of E.RuleCondition N.Rule)) rule)
+same_test row rule = ap (λ (b : Bool). b && refers_at REFERENCES row (entity_number E.Rule) rule) (flip_eq (entity_number E.RuleCondition) (entity_number row.key.entity)) ∙ by (is_condition row) refl
   where
-    and_true : (b : Bool) → (b && true) ≡ b
-    and_true true = refl
-    and_true false = refl
-
-    and_false : (b : Bool) → (b && false) ≡ false
-    and_false true = refl
-    and_false false = refl
-
-    by : (b : Bool) → is_condition row ≡ b → (refers_at REFERENCES row (entity_number E.Rule) rule && is_condition row) ≡ (is_condition row && is_id (id_at row (number_of E.RuleCondition N.Rule)) rule)
-    by true e = rw e (and_true (refers_at REFERENCES row (entity_number E.Rule) rule) ∙ refers row rule (eqb-true (entity_number row.key.entity) (entity_number E.RuleCondition) e))
-    by false e = rw e (and_false (refers_at REFERENCES row (entity_number E.Rule) rule))
+    by : (b : Bool) → is_condition row ≡ b → (is_condition row && refers_at REFERENCES row (entity_number E.Rule) rule) ≡ (is_condition row && is_id (id_at row (number_of E.RuleCondition N.Rule)) rule)
+    by true e = rw e (refers row rule (eqb-true (entity_number row.key.entity) (entity_number E.RuleCondition) e))
+    by false e = rw e refl
 
 -- ---- rows found again at their keys
 
 -- a row below the keys is none of theirs
-skipped : (row : Row) (rows : List Row) (keys : List Key) → AllByRecursion (λ key. key_cmp row.key key ≡ Less) keys → conditions_at (row ∷ rows) keys ≡ conditions_at rows keys
+skipped : (row : Row) (rows : List Row) (keys : List Key) → AllByRecursion (λ key. key_cmp row.key key ≡ Less) keys → rows_at (row ∷ rows) keys ≡ rows_at rows keys
 skipped row rows [] above = refl
-skipped row rows (key ∷ keys) above = rw above.0 (ap (cons_option (condition_at rows key)) (skipped row rows keys above.1))
+skipped row rows (key ∷ keys) above = rw above.0 (ap (cons_option (row_at rows key)) (skipped row rows keys above.1))
 
 part_above : (low : Key) (test : Row → Bool) (rows : List Row) → AllByRecursion (λ row. key_cmp low (row_key row) ≡ Less) rows → AllByRecursion (λ key. key_cmp low key ≡ Less) (map row_key (filter test rows))
 part_above low test [] above = tt
@@ -78,18 +79,16 @@ part_above low test (row ∷ rows) above = by (part_above low test rows above.1)
     by more true e = rw e (above.0, more)
     by more false e = rw e more
 
-found_again : (test : Row → Bool) (rows : List Row) → IsInKeyOrder rows → conditions_at rows (map row_key (filter test rows)) ≡ filter (λ row. test row && is_condition row) rows
+found_again : (test : Row → Bool) (rows : List Row) → IsInKeyOrder rows → rows_at rows (map row_key (filter test rows)) ≡ filter test rows
 found_again test [] up = refl
-found_again test (row ∷ rows) up = by (found_again test rows up.1) (test row) (is_condition row) refl refl
+found_again test (row ∷ rows) up = by (found_again test rows up.1) (test row) refl
   where
-    rest : conditions_at (row ∷ rows) (map row_key (filter test rows)) ≡ conditions_at rows (map row_key (filter test rows))
+    rest : rows_at (row ∷ rows) (map row_key (filter test rows)) ≡ rows_at rows (map row_key (filter test rows))
     rest = skipped row rows (map row_key (filter test rows)) (part_above row.key test rows up.0)
 
-    by : conditions_at rows (map row_key (filter test rows)) ≡ filter (λ other. test other && is_condition other) rows → (b c : Bool) → test row ≡ b → is_condition row ≡ c
-        → conditions_at (row ∷ rows) (map row_key (filter test (row ∷ rows))) ≡ filter (λ other. test other && is_condition other) (row ∷ rows)
-    by more true true e f = rw (e, f, itself_equal key_cmp key_cmp_total row.key) (ap (λ (others : List Row). row ∷ others) (rest ∙ more))
-    by more true false e f = rw (e, f) (rest ∙ more)
-    by more false c e f = rw e (rest ∙ more)
+    by : rows_at rows (map row_key (filter test rows)) ≡ filter test rows → (b : Bool) → test row ≡ b → rows_at (row ∷ rows) (map row_key (filter test (row ∷ rows))) ≡ filter test (row ∷ rows)
+    by more true e = rw (e, itself_equal key_cmp key_cmp_total row.key) (ap (λ (others : List Row). row ∷ others) (rest ∙ more))
+    by more false e = rw e (rest ∙ more)
 
 filter-same : (p q : Row → Bool) → ((row : Row) → p row ≡ q row) → (rows : List Row) → filter p rows ≡ filter q rows
 filter-same p q same rows = ap (λ (test : Row → Bool). filter test rows) (λ i row. same row i)
@@ -103,18 +102,14 @@ filter-filter p q (row ∷ rows) = by (filter-filter p q rows) (q row) (p row) r
     by more true false e f = rw (e, f) more
     by more false c e f = rw e more
 
-and_assoc : (a b c : Bool) → ((a && b) && c) ≡ (a && (b && c))
-and_assoc true b c = refl
-and_assoc false b c = refl
-
--- the conditions among the rows that refer to a rule
-pub conditions_found : (rows : List Row) (rule : ℕ) → IsInKeyOrder rows → conditions_at rows (referrers REFERENCES (live rows) (entity_number E.Rule) rule) ≡ conditions rows rule
+-- the conditions of a rule are the rows of conditions that refer to it
+pub conditions_found : (rows : List Row) (rule : ℕ) → IsInKeyOrder rows → rows_at rows (referrers_by E.RuleCondition (live rows) (entity_number E.Rule) rule) ≡ conditions rows rule
 conditions_found rows rule up =
-    ap (λ (some : List Row). conditions_at rows (map row_key some)) (filter-filter (λ row. refers_at REFERENCES row (entity_number E.Rule) rule) is_live rows)
-    ∙ (found_again (λ row. is_live row && refers_at REFERENCES row (entity_number E.Rule) rule) rows up
-    ∙ (filter-same (λ row. (is_live row && refers_at REFERENCES row (entity_number E.Rule) rule) && is_condition row) (λ row. is_live row && (is_condition row && is_id (id_at row (number_of E.RuleCondition N.Rule)) rule))
-    (λ row. and_assoc (is_live row) (refers_at REFERENCES row (entity_number E.Rule) rule) (is_condition row) ∙ ap (λ (b : Bool). is_live row && b) (same_test row rule)) rows
-    ∙ sym (filter-filter (λ row. is_condition row && is_id (id_at row (number_of E.RuleCondition N.Rule)) rule) is_live rows)))
+    let names : Row → Bool = λ row. is_entity E.RuleCondition row.key.entity && refers_at REFERENCES row (entity_number E.Rule) rule in
+    ap (λ (some : List Row). rows_at rows (map row_key some)) (filter-filter names is_live rows)
+    ∙ (found_again (λ row. is_live row && names row) rows up
+    ∙ (sym (filter-filter names is_live rows)
+    ∙ filter-same names (λ row. is_condition row && is_id (id_at row (number_of E.RuleCondition N.Rule)) rule) (λ row. same_test row rule) (live rows)))
 
 -- ---- one row more
 

@@ -10,14 +10,14 @@ use std::alloc::Global;
 use trees::Tree;
 
 /// The conditions of the rule with that id: none where there is no such rule. Want of memory is the
-/// only error. It costs a look-up for each row that refers to the rule.
+/// only error. It costs a look-up for each of them, whatever else refers to the rule.
 pub fn read_tree(alloc: Global, rows: &Rows, rule: u128) -> Result<Tree, NoMemory>
     ensures { IfOk result (λ tree. tree ≡ conditions rows.now.list rule) }
 {
     // Of this call just its promise is wanted: the rows stand in the order of their keys.
     let _all = rows.len();
-    let keys = rows.referrers_of(alloc, &rule_key(rule))?;
-    let nodes = conditions_at(alloc, rows, keys.as_slice())?;
+    let keys = rows.referrers_by(alloc, Entity::RuleCondition, 0, &rule_key(rule))?;
+    let nodes = copies_at(alloc, rows, keys.as_slice())?;
     Ok(Tree::from_nodes(List::from_vec(nodes)))
 }
 
@@ -32,27 +32,17 @@ fn rule_key(id: u128) -> Key
     }
 }
 
-/// Copies of the conditions at these keys.
-fn conditions_at(alloc: Global, rows: &Rows, keys: &[Key]) -> Result<Vec<Row>, NoMemory>
-    ensures { IfOk result (λ nodes. nodes.items ≡ spec.conditions_at rows.now.list keys.now) }
+/// Copies of the rows at these keys.
+fn copies_at(alloc: Global, rows: &Rows, keys: &[Key]) -> Result<Vec<Row>, NoMemory>
+    ensures { IfOk result (λ nodes. nodes.items ≡ spec.rows_at rows.now.list keys.now) }
 {
     let mut nodes = Vec::new(alloc);
     let mut rest = keys;
     while let [key, more @ ..] = rest {
-        push_if_any(alloc, &mut nodes, condition_at(rows, key))?;
+        push_if_any(alloc, &mut nodes, rows.get(key))?;
         rest = more;
     }
     Ok(nodes)
-}
-
-/// The row at the key, where it is a condition.
-fn condition_at<'a>(rows: &'a Rows, key: &Key) -> Option<&'a Row>
-    ensures { option_copied result ≡ spec.condition_at rows.entry.now.list key.now }
-{
-    if key.entity == Entity::RuleCondition {
-        return rows.get(key);
-    }
-    None
 }
 
 /// Puts a copy of the row at the end, if there is one.

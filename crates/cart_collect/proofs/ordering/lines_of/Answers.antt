@@ -16,8 +16,8 @@ use Rattle.std.proofs.Common.{refl}
 pub returns : goal.returns
 returns c =
     let rows = c.args.rows.now.list in
-    let ranks : c.as_slice-3.result.now ≡ in_rank (map line_rank (naming rows E.CartLine N.Cart c.args.cart)) =
-    rw (c.as_slice-3.ensures.value, c.rank.ensures, c.in_ok-ranks.ensures, c.as_slice-2.ensures, c.in_ok-lines.ensures, c.as_slice.ensures, c.in_ok-keys.ensures)
+    let ranks : c.as_slice-2.result.now ≡ in_rank (map line_rank (naming rows E.CartLine N.Cart c.args.cart)) =
+    rw (c.as_slice-2.ensures.value, c.rank.ensures, c.in_ok-ranks.ensures, c.as_slice.ensures, c.in_ok-lines.ensures)
     (ap (λ (found : List Row). in_rank (map line_rank found)) (lines_found rows c.args.cart c.in_order.ensures)) in
     let same = ap (rows_at_ranks rows) ranks
     ∙ ranked_rows line_rank (λ row. refl) rows (naming rows E.CartLine N.Cart c.args.cart)
