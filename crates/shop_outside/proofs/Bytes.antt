@@ -31,7 +31,7 @@ bytes_change : (held : Bodies) (key : Key) (change : Option (List ℕ)) (q : Key
 bytes_change held key None q up = ap (λ row. option_map (λ r. r.1) row) (find_without key_cmp kept_key key_cmp_total held key q up) ∙ body_if _ None (find key_cmp kept_key held q)
 bytes_change held key (Some body) q up = ap (λ row. option_map (λ r. r.1) row) (find_put key_cmp kept_key key_cmp_total held (key, body) q) ∙ body_if _ (Some (key, body)) (find key_cmp kept_key held q)
 
-ascends_change : (held : Bodies) (key : Key) (change : Option (List ℕ)) → Ascends key_cmp kept_key held → Ascends key_cmp kept_key (body_change held key change)
+pub ascends_change : (held : Bodies) (key : Key) (change : Option (List ℕ)) → Ascends key_cmp kept_key held → Ascends key_cmp kept_key (body_change held key change)
 ascends_change held key None up = ascends_without key_cmp kept_key key_cmp_total held key up
 ascends_change held key (Some body) up = ascends_put key_cmp kept_key key_cmp_total held (key, body) up
 

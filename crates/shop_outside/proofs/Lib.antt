@@ -1,6 +1,6 @@
 pub mod Ascending
 pub mod Bytes
-pub mod Changing
+pub mod InPages
 pub mod Finding
 pub mod Known
 pub mod Pieces

@@ -3,5 +3,6 @@ pub mod Failing
 pub mod Clocks
 pub mod Keeping
 pub mod MemLines
+pub mod Bodies
 pub mod MemKeeping
 pub mod Scanning

@@ -3,9 +3,10 @@ use Rattle.std.specs.Prelude.{ℕ, ◌+◌}
 use Rattle.shop_outside.specs.declared.calls.Calls.{Calls}
 use Rattle.shop_outside.specs.declared.keeper.Kept.{Kept}
 use Rattle.shop_outside.specs.declared.mem_keeper.MemKeeper.{MemKeeper}
+use Rattle.shop_outside.specs.Bodies.{bodies_of}
 
 abbrev pub held_by : MemKeeper → Kept
-held_by keeper = record { rows = keeper.rows.items; number = keeper.number }
+held_by keeper = record { rows = bodies_of keeper.rows; number = keeper.number }
 
 abbrev pub loads_of : MemKeeper → Calls
 loads_of keeper = keeper.loads

@@ -5,8 +5,7 @@ use Rattle.std.specs.Ordering.{is_lt, is_eq}
 use Rattle.std.specs.List.{fold}
 use Rattle.shop_defs.specs.declared.key.Key.{Key}
 use Rattle.shop_defs.specs.Keys.{key_cmp}
-use Rattle.keyed.specs.Keyed.{Ascends}
-use Rattle.shop_outside.specs.Keeping.{Bodies, BodyChanges, kept_key, bytes_at, body_change}
+use Rattle.shop_outside.specs.Keeping.{Bodies, BodyChanges, bytes_at}
 use Rattle.shop_outside.specs.Keeping.{keeps, kept_rows}
 
 -- a key is below the first one
@@ -22,10 +21,6 @@ keys_ascend (row ∷ more) = is_below_first row.0 more && keys_ascend more
 -- the rows with another key
 abbrev pub others_of : Bodies → Key → Bodies
 others_of held key = filter (λ row. not (is_eq (key_cmp row.0 key))) held
-
--- a list is another with one change made, and ascends
-abbrev pub AtPlace : Bodies → Key → Option (List ℕ) → Bodies → Type 0
-AtPlace held key change now = (now ≡ body_change held key change) × Ascends key_cmp kept_key now
 
 -- one key's bytes change, and those at all others stay
 abbrev pub ChangesAt : Bodies → Key → Option (List ℕ) → Bodies → Type 0

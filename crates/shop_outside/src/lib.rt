@@ -20,6 +20,7 @@ mod bodies;
 mod calls;
 mod clock;
 mod failed;
+mod holding;
 mod keeper;
 mod line;
 mod link;

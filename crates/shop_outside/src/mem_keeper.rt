@@ -4,24 +4,26 @@ ghost use Rattle.shop_defs.specs.Keys.{key_cmp};
 ghost use Rattle.keyed.specs.Keyed.{Ascends};
 ghost use Rattle.shop_outside.specs.Keeping.{KeepCause, Applied, kept_key};
 ghost use Rattle.shop_outside.specs.declared.keeper.KeepFault.TheVariants as faults;
-ghost use Rattle.shop_outside.specs.Scanning.{keys_ascend};
+ghost use Rattle.shop_outside.specs.Bodies.{IsInOrder};
 
-use crate::bodies::{change_all, copy_changes, has_ascending_keys};
 use crate::calls::Calls;
+use crate::holding::Holding;
 use crate::keeper::{KeepFault, Keeper, Kept};
-use shop_defs::{Copied, Key, List};
+use shop_defs::{Key, List, NoMemory};
 use std::alloc::Global;
 
 /// Holds bytes in memory. The calls in two lists fail, counted from 1 for each method.
+///
+/// Bytes whose keys ascend, as those of a sound store do, go into pages at the first `apply`. From
+/// then on a change costs the pages that it touches, whatever the order of the ids.
 #[derive(Drop)]
 pub struct MemKeeper {
     alloc: Global,
-    rows: Vec<(Key, List<u8>)>,
-    ascend: bool,
+    rows: Holding,
     number: u64,
     loads: Calls,
     applies: Calls,
-    ghost order: { ascend ≡ keys_ascend rows.items },
+    ghost order: { IsInOrder rows },
     ghost range: { number < 2 ^ 63 },
 }
 
@@ -44,23 +46,20 @@ impl MemKeeper {
         ensures applies { Begins failing_applies.items (applies_of result) }
     {
         let Kept { rows, number } = kept;
-        let rows = rows.into_vec();
-        let ascend = has_ascending_keys(&rows);
         MemKeeper {
             alloc,
-            rows,
-            ascend,
+            rows: Holding::Listed(rows.into_vec()),
             number,
             loads: Calls::new(failing_loads),
             applies: Calls::new(failing_applies),
         }
     }
 
-    /// The rows that it holds, in their order.
-    pub fn rows(&self) -> &[(Key, List<u8>)]
-        ensures { result.now ≡ (held_by self.now).rows }
+    /// Copies of the rows that it holds, in their order. Want of memory is the only error.
+    pub fn rows(&self) -> Result<List<(Key, List<u8>)>, NoMemory>
+        ensures { IfOk result (λ rows. rows ≡ (held_by self.now).rows) }
     {
-        self.rows.as_slice()
+        self.rows.copied(self.alloc)
     }
 
     /// The number that it holds.
@@ -91,10 +90,7 @@ impl Keeper for MemKeeper {
         ensures applies { applies_of self.new ≡ applies_of self.old }
     {
         self.loads.begin()?;
-        let mut rows = List::new(self.alloc);
-        for row in &self.rows {
-            rows.push(row.copy(self.alloc)?)?;
-        }
+        let rows = self.rows.copied(self.alloc)?;
         Ok(Kept {
             rows,
             number: self.number,
@@ -115,9 +111,7 @@ impl Keeper for MemKeeper {
         ensures loads { loads_of self.new ≡ loads_of self.old }
     {
         self.applies.begin()?;
-        let copies = copy_changes(self.alloc, changes)?;
-        self.rows.reserve(copies.len())?;
-        self.ascend = change_all(&mut self.rows, copies, self.ascend);
+        self.rows.change(self.alloc, changes)?;
         self.number = number;
         Ok(())
     }

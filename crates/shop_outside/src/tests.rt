@@ -159,9 +159,11 @@ fn takes<K: Sink>(sink: &mut K, bytes: &[u8], wanted: Writes) -> bool {
 }
 
 fn holds(keeper: &MemKeeper, wanted: &[(Key, u8)], number: u64) -> bool {
-    let rows = keeper.rows();
+    let Ok(rows) = keeper.rows() else {
+        return false;
+    };
     let mut holds = rows.len() == wanted.len() && keeper.number() == number;
-    for (row, want) in rows.iter().zip(wanted) {
+    for (row, want) in rows.as_slice().iter().zip(wanted) {
         holds &= row.0.order(&want.0).is_eq() && row.1.as_slice() == [want.1].as_slice();
     }
     holds

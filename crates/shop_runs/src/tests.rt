@@ -128,9 +128,12 @@ fn keeper_of(alloc: Global, run: &Run<'_>) -> Result<MemKeeper, Fail> {
 }
 
 fn holds(keeper: &MemKeeper, rows: &[Held], number: u64) -> bool {
+    let Ok(kept) = keeper.rows() else {
+        return false;
+    };
     keeper.number() == number
-        && keeper.rows().len() == rows.len()
-        && keeper.rows().iter().zip(rows).all(|(found, held)| found.0 == key_of(held)
+        && kept.len() == rows.len()
+        && kept.as_slice().iter().zip(rows).all(|(found, held)| found.0 == key_of(held)
             && found.1.as_slice() == held.4)
 }
 
