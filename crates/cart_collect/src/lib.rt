@@ -25,6 +25,8 @@ mod numbers;
 mod ordering;
 mod promotion;
 mod ranks;
+#[cfg(test)]
+mod tests;
 mod walking;
 
 pub use collecting::collect;

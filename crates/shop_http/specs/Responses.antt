@@ -55,3 +55,15 @@ no_memory_text closing = response_text 507 (codes "{\"error\":\"no_memory\"}") N
 -- the response to a request whose answer isn't there yet; the connection is closed
 abbrev pub not_built_text : List ℕ
 not_built_text = response_text 501 (codes "{\"error\":\"not_built\"}") None true
+
+-- the response to what is no head of a request; the connection is closed
+abbrev pub bad_head_text : List ℕ
+bad_head_text = response_text 400 (codes "{\"error\":\"bad_head\"}") None true
+
+-- the response to a request whose body is sent in chunks; the connection is closed
+abbrev pub chunked_text : List ℕ
+chunked_text = response_text 501 (codes "{\"error\":\"chunked\"}") None true
+
+-- the response to a request whose body is longer than one may be; the connection is closed
+abbrev pub body_too_large_text : List ℕ
+body_too_large_text = response_text 413 (codes "{\"error\":\"body_too_large\"}") None true

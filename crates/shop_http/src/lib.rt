@@ -11,18 +11,21 @@
 //!   `law_of_the_cut`: more bytes never change a settled front, and what isn't settled is short.
 //!   `law_of_the_end`: a head ends at the first empty line behind a line end.
 //! - `put_response` puts the bytes of a response (`response_text`), with the phrase of the crate
-//!   `http`; `put_head` and `put` put them where there is room, and then can't fail. The two fixed
-//!   responses are the same definition's bytes.
+//!   `http`; `put_head` and `put` put them where there is room, and then can't fail. The responses
+//!   that are always the same are the same definition's bytes.
 #![tactic(auto)]
 
 mod fields;
+mod fixed;
 mod next;
 mod region;
 mod respond;
 
+pub use fixed::{
+    NO_MEMORY_BODY, STORE_FAILED_BODY, bad_head_response, body_too_large_response,
+    chunked_response, no_memory_response, not_built_response,
+};
 pub use next::{
     Given, Head, HeadFault, Next, law_of_the_cut, law_of_the_end, law_of_the_heads, next_request,
 };
-pub use respond::{
-    LONGEST_HEAD, Method2, no_memory_response, not_built_response, put, put_head, put_response,
-};
+pub use respond::{LONGEST_HEAD, Method2, put, put_head, put_response};

@@ -1,7 +1,7 @@
 //! Responses, as bytes.
 ghost use Rattle.std.specs.Prelude.{◌≡◌, ◌↔◌, ◌++◌, ◌+◌, ◌≤◌, IsSome, OnErr, OnOk, length};
 ghost use Rattle.std.specs.Vec.{vec_capacity, vec_len};
-ghost use Rattle.shop_http.specs.Responses.{allow_line, close_line, content_lines, head_text, IsNamed, no_memory_text, not_built_text, phrase_of, response_text, start_line};
+ghost use Rattle.shop_http.specs.Responses.{allow_line, close_line, content_lines, head_text, IsNamed, phrase_of, response_text, start_line};
 
 use http::StatusCode;
 use itoa::Buffer;
@@ -16,15 +16,6 @@ pub enum Method2 {
 
 /// No head of a response is longer than that, in bytes.
 pub const LONGEST_HEAD: usize = 160;
-
-const NO_MEMORY: &[u8] =
-    b"HTTP/1.1 507 Insufficient Storage\r\ncontent-type: application/json\r\ncontent-length: 21\r\n\r\n{\"error\":\"no_memory\"}";
-
-const NO_MEMORY_CLOSING: &[u8] =
-    b"HTTP/1.1 507 Insufficient Storage\r\ncontent-type: application/json\r\ncontent-length: 21\r\nconnection: close\r\n\r\n{\"error\":\"no_memory\"}";
-
-const NOT_BUILT: &[u8] =
-    b"HTTP/1.1 501 Not Implemented\r\ncontent-type: application/json\r\ncontent-length: 21\r\nconnection: close\r\n\r\n{\"error\":\"not_built\"}";
 
 /// Puts a whole response (RFC 9112, section 2.1) with a body of JSON behind what is there.
 ///
@@ -140,22 +131,4 @@ fn close_line(closing: bool) -> &'static [u8]
     } else {
         b""
     }
-}
-
-/// The response 507 where memory ran out, which takes none.
-pub fn no_memory_response(closing: bool) -> &'static [u8]
-    ensures { result.now ≡ no_memory_text closing }
-{
-    if closing {
-        NO_MEMORY_CLOSING
-    } else {
-        NO_MEMORY
-    }
-}
-
-/// The response 501 to a request whose answer isn't there yet. It takes no memory, and the connection is closed after it.
-pub fn not_built_response() -> &'static [u8]
-    ensures { result.now ≡ not_built_text }
-{
-    NOT_BUILT
 }

@@ -7,13 +7,10 @@ ghost use Rattle.shop_json.specs.Replying.{done_body, reply_body};
 
 use itoa::Buffer;
 use shop_defs::NoMemory;
-use shop_http::{LONGEST_HEAD, put, put_head};
+use shop_http::{LONGEST_HEAD, STORE_FAILED_BODY, put, put_head};
 
 /// No response to a write that is accepted is longer than that, in bytes: a head, and two numbers of 20 digits with their names.
 pub const LONGEST_DONE: usize = LONGEST_HEAD + 19 + 20 + 20;
-
-/// The body where the keeper failed.
-const STORE_FAILED: &[u8] = b"{\"error\":\"store_failed\"}";
 
 /// Takes the room for the response to a write that is accepted, also where the keeper fails. An error comes only where memory is wanting.
 pub fn reserve_done(out: &mut Vec<u8>) -> Result<(), NoMemory>
@@ -49,6 +46,6 @@ pub fn put_store_failed(out: &mut Vec<u8>, closing: bool)
     requires { vec_len out.old + LONGEST_DONE ≤ vec_capacity out.old }
     ensures { out.new.items ≡ out.old.items ++ response_text 503 (reply_body replies.StoreFailed) None closing }
 {
-    put_head(out, 503, STORE_FAILED.len(), None, closing);
-    put(out, STORE_FAILED);
+    put_head(out, 503, STORE_FAILED_BODY.len(), None, closing);
+    put(out, STORE_FAILED_BODY);
 }

@@ -14,13 +14,8 @@ use reply_json::{
 use shop_chain::{Shown, ShownValue};
 use shop_core::{Reply, RowReply, RowSeen};
 use shop_defs::{List, NoMemory, Row, Txt, Value};
+use shop_http::{NO_MEMORY_BODY, STORE_FAILED_BODY};
 use std::alloc::Global;
-
-/// The body where the keeper failed.
-const STORE_FAILED: &[u8] = b"{\"error\":\"store_failed\"}";
-
-/// The body where memory was refused.
-const NO_MEMORY: &[u8] = b"{\"error\":\"no_memory\"}";
 
 /// The status (RFC 9110, section 15) and the body of the response to a request that was answered so.
 ///
@@ -45,8 +40,8 @@ pub fn reply_text(alloc: Global, reply: &Reply) -> Result<(u16, List<u8>), NoMem
             refusal_text(alloc, refused)?,
         )),
         Reply::Line(fault) => Ok((fault_status(fault), fault_text(alloc, fault)?)),
-        Reply::StoreFailed => Ok((503, copy_body(alloc, STORE_FAILED)?)),
-        Reply::NoMemory => Ok((507, copy_body(alloc, NO_MEMORY)?)),
+        Reply::StoreFailed => Ok((503, copy_body(alloc, STORE_FAILED_BODY)?)),
+        Reply::NoMemory => Ok((507, copy_body(alloc, NO_MEMORY_BODY)?)),
     }
 }
 

@@ -11,7 +11,7 @@ use Rattle.shop_routes.specs.PathParts.{Parts, Checks, bad_part, first_bad, id_f
 use Rattle.shop_routes.specs.Paths.{Found, Line, asked_by, first_on, found, is_plain, line_of, lines, name_in, on_piece, or_found, parts_on, pieces}
 use Rattle.shop_routes.proofs.TableRows.{Among}
 
-abbrev Name : Type 0
+abbrev pub Name : Type 0
 Name = List ℕ
 
 module _ (nil : Bool) where
@@ -39,7 +39,7 @@ abbrev are_distinct : List Name → Bool
 are_distinct [] = true
 are_distinct (o ∷ order) = lacks o order && are_distinct order
 
-abbrev names_of : Parts → List Name
+abbrev pub names_of : Parts → List Name
 names_of parts = map (λ p. p.0) parts
 
 not_true : (b : Bool) → not b ≡ true → b ≡ false
@@ -105,11 +105,11 @@ module _ (nil : Bool) where
 
 -- ---- the names of the table
 
-abbrev name_before : Option Name → List Name → List Name
+abbrev pub name_before : Option Name → List Name → List Name
 name_before None names = names
 name_before (Some name) names = name ∷ names
 
-abbrev path_names : List (List ℕ) → List Name
+abbrev pub path_names : List (List ℕ) → List Name
 path_names [] = []
 path_names (word ∷ path) = name_before (name_in word) (path_names path)
 
@@ -125,24 +125,24 @@ one_names (Some name) word names (b ∷ rest) (Some more) parts e h =
     let is : parts ≡ (name, b ∷ rest) ∷ more = cc in
     rw is (ap (λ (ns : List Name). name ∷ ns) (h more refl))
 
-part_names : (path target : List (List ℕ)) (parts : Parts) → parts_on path target ≡ Some parts → names_of parts ≡ path_names path
+pub part_names : (path target : List (List ℕ)) (parts : Parts) → parts_on path target ≡ Some parts → names_of parts ≡ path_names path
 part_names [] [] parts e = let is : parts ≡ [] = cc in rw is refl
 part_names [] (piece ∷ more) parts e = absurd cc
 part_names (word ∷ path) [] parts e = absurd cc
 part_names (word ∷ path) (piece ∷ more) parts e = one_names (name_in word) word (path_names path) piece (parts_on path more) parts e (part_names path more)
 
-first_line : (ls : List Line) (target : List (List ℕ)) (f : Found) → first_on ls target ≡ Some f → (line : Line) × Among line ls × (parts_on (pieces line.1) target ≡ Some f.parts)
+pub first_line : (ls : List Line) (target : List (List ℕ)) (f : Found) → first_on ls target ≡ Some f → (line : Line) × Among line ls × (parts_on (pieces line.1) target ≡ Some f.parts) × (f.asked ≡ asked_by line)
 first_line [] target f e = absurd cc
 first_line (l ∷ ls) target f e = go (parts_on (pieces l.1) target) refl e (first_line ls target f)
   where
     go : (o : Option Parts) → parts_on (pieces l.1) target ≡ o → or_found o (asked_by l) (first_on ls target) ≡ Some f
-        → (first_on ls target ≡ Some f → (line : Line) × Among line ls × (parts_on (pieces line.1) target ≡ Some f.parts))
-        → (line : Line) × Among line (l ∷ ls) × (parts_on (pieces line.1) target ≡ Some f.parts)
-    go None is e later = let m = later e in (m.0, inr m.1, m.2)
+        → (first_on ls target ≡ Some f → (line : Line) × Among line ls × (parts_on (pieces line.1) target ≡ Some f.parts) × (f.asked ≡ asked_by line))
+        → (line : Line) × Among line (l ∷ ls) × (parts_on (pieces line.1) target ≡ Some f.parts) × (f.asked ≡ asked_by line)
+    go None is e later = let m = later e in (m.0, inr m.1, m.2, m.3)
     go (Some parts) is e later =
         let made : Found = record { asked = asked_by l; parts = parts } in
         let equal : made ≡ f = cc in
-        (l, inl refl, is ∙ ap (λ (g : Found). Some g.parts) equal)
+        (l, inl refl, is ∙ ap (λ (g : Found). Some g.parts) equal, sym (ap (λ (g : Found). g.asked) equal))
 
 -- the names, in the order in which they are tried
 abbrev order : List Name

@@ -5,3 +5,4 @@ pub mod Walking
 pub mod TableRows
 pub mod LineFound
 pub mod FirstParts
+pub mod Formed

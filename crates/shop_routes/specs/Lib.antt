@@ -4,6 +4,7 @@ pub mod Paths
 pub mod Settings
 pub mod Laws
 pub mod Routing
+pub mod WellFormed
 pub mod Filling
 pub mod Seen
 pub mod Later

@@ -9,6 +9,9 @@
 //!   header. It is said over the pieces of the target between its slashes, in words that know
 //!   nothing of the router. It is lent from the request and takes no memory; `route` makes the route
 //!   of it, and takes memory only for the name of an entity.
+//! - What is looked up is well formed, and so is its route: no id that a path names is 0, nor is a
+//!   draft's version or a language, and a page is counted from 1. `law_of_the_form` says it of the
+//!   request, and that the second part of a row's key is there exactly where the path has it.
 //! - `law_of_the_first_part`: the malformed part that is named is the first that stands in the
 //!   target.
 //! - `asks_later` says of what was looked up whether it breaks none of these rules and asks for what
@@ -24,4 +27,4 @@ mod router;
 mod table;
 
 pub use looked::{Asks, Looked};
-pub use router::{Routes, law_of_the_first_part};
+pub use router::{Routes, law_of_the_first_part, law_of_the_form};

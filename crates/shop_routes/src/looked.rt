@@ -1,9 +1,10 @@
 //! What was looked up of a request.
-ghost use Rattle.std.specs.Prelude.{◌≡◌, ℕ, List, IfOk};
+ghost use Rattle.std.specs.Prelude.{◌≡◌, ◌⊎◌, ℕ, List, IfOk, OnErr};
 ghost use Rattle.shop_requests.specs.declared.query.Query.{Query};
 ghost use Rattle.shop_requests.specs.declared.route.Route.{Route};
 ghost use Rattle.shop_routes.specs.Later.{asks_later, is_later};
 ghost use Rattle.shop_routes.specs.Routing.{meant, route_of, route_to, row_read};
+ghost use Rattle.shop_routes.specs.WellFormed.{IsWellFormed};
 ghost use Rattle.shop_routes.specs.declared.parts.Numbers.{Numbers};
 
 use crate::endpoint::Endpoint;
@@ -75,7 +76,11 @@ fn is_later(endpoint: Endpoint, headers: &Headers) -> bool
 impl<'b> Asks<'b> {
     /// The route, with a copy of the name of an entity, where it has one. An error comes only where memory is wanting for that.
     pub fn route(&self, alloc: Global) -> Result<Route, NoMemory>
-        ensures { IfOk result (λ route. route ≡ route_of self.now) }
+        ensures route { IfOk result (λ route. route ≡ route_of self.now) }
+        // What is well formed, as `look` says, gives a route that is.
+        ensures formed { IsWellFormed (route_of self.now) → IfOk result IsWellFormed }
+        // Memory is wanted only for the name of an entity.
+        ensures wanted { OnErr result ((self.now.endpoint ≡ Endpoint.Row) ⊎ (self.now.endpoint ≡ Endpoint.RowList)) }
     {
         let Numbers { version, id, .. } = self.numbers;
         let min_front = self.headers.min_front;

@@ -8,8 +8,9 @@ ghost use Rattle.shop_routes.specs.PathParts.{bad_part, numbers_in};
 ghost use Rattle.shop_routes.specs.Routing.{allows_nil, judged_headers, judged_parts, meant, routed};
 ghost use Rattle.shop_routes.specs.Seen.{parts_seen, seen};
 ghost use Rattle.shop_routes.specs.Settings.{bad_header};
+ghost use Rattle.shop_routes.specs.WellFormed.{IsLookedUpWell};
 ghost use Rattle.shop_routes.specs.Filling.{table};
-ghost use Rattle.shop_routes.specs.Laws.{TheFirstIsNamed};
+ghost use Rattle.shop_routes.specs.Laws.{TheFirstIsNamed, WhatIsAskedIsFormed};
 ghost use Rattle.shop_routes.specs.Paths.{found, is_plain, is_plain_byte, line_of};
 
 use crate::endpoint::{Asked, Endpoint};
@@ -55,7 +56,16 @@ impl Routes {
     /// - `BadHeader`: of the headers, in this order, none is there twice; `x-language-id` and `x-version-id` are ids,
     ///   `x-inheritance` is `0` or `1`, and `x-min-front` is 1 to 19 digits that spell at most 2^63 - 1. They are tried on every
     ///   path. Where one is missing it is 1, 0, `0` and 0.
+    ///
+    /// So no id that it names is 0, a page is counted from 1, and the second part of a row's key is there exactly where the path has it.
     pub fn look<'b>(&self, head: &Head<'b>) -> Looked<'b>
+        ensures meant { (body : List ℕ) → meant result ≡ routed (request_of head.now body) }
+        ensures formed { IsLookedUpWell head.now.target.now result }
+    {
+        self.look_up(head)
+    }
+
+    fn look_up<'b>(&self, head: &Head<'b>) -> Looked<'b>
         ensures { (body : List ℕ) → meant result ≡ routed (request_of head.now body) }
     {
         match self.find(head.target) {
@@ -163,4 +173,10 @@ fn look_with<'b>(head: &Head<'b>, found: &Found<'_, 'b>, numbers: &Numbers) -> L
 /// The malformed part that is named is the first that stands in the target.
 pub fn law_of_the_first_part()
     ensures { TheFirstIsNamed }
+{}
+
+/// What a request asks for that breaks no rule is well formed, and the second part of a row's key is there exactly where the path
+/// has it.
+pub fn law_of_the_form()
+    ensures { WhatIsAskedIsFormed }
 {}

@@ -1,7 +1,7 @@
 use Rattle.std.proofs.Common.{refl}
 use Rattle.std.specs.Fmt.{digits}
 use Rattle.shop_http.specs.Responses.{response_text, start_line, content_lines}
-use Rattle.shop_http.proofs.respond.not_built_response.Goals as goal
+use Rattle.shop_http.proofs.fixed.body_too_large_response.Goals as goal
 
 pub returns : goal.returns
 unfolding response_text start_line content_lines digits

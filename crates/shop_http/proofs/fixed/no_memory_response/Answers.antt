@@ -1,7 +1,7 @@
 use Rattle.std.proofs.Common.{ap, sym}
 use Rattle.std.specs.Fmt.{digits}
 use Rattle.shop_http.specs.Responses.{no_memory_text, response_text, start_line, content_lines}
-use Rattle.shop_http.proofs.respond.no_memory_response.Goals as goal
+use Rattle.shop_http.proofs.fixed.no_memory_response.Goals as goal
 
 pub returns-then-closing : goal.returns-then-closing
 unfolding response_text start_line content_lines digits
