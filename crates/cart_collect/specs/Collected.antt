@@ -49,12 +49,13 @@ with_product rows languages line product parent = record {
   has_variants = is_any (naming rows E.Product N.Parent product.key.id);
   prices = or_parents rows parent (own_prices rows product);
   tax = live_at rows E.Tax (tax_id product parent);
+  listed = None;  -- a cart has no currency yet
   name = name_of rows languages product parent;
 }
 
 -- a line whose product isn't
 abbrev pub without_product : Row → LineRows
-without_product line = record { line = line; product = None; parent = None; has_variants = false; prices = []; tax = None; name = None }
+without_product line = record { line = line; product = None; parent = None; has_variants = false; prices = []; tax = None; listed = None; name = None }
 
 abbrev pub by_product : List Row → List ℕ → Row → Option Row → LineRows
 by_product rows languages line None = without_product line
@@ -96,6 +97,7 @@ with_method rows cart method = record {
   method = method;
   method_tax = live_at rows E.Tax (option_and_then (λ row. id_at row (number_of E.ShippingMethod N.Tax)) method);
   shipping = shipping_of rows method;
+  currency = None;  -- nor has the shop
 }
 
 -- a cart with the rows that its prices are made of

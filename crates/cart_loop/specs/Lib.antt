@@ -5,3 +5,5 @@ pub mod Facts
 pub mod Labels
 pub mod Checked
 pub mod Settled
+pub mod Sameness
+pub mod Answer

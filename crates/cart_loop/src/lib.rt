@@ -1,8 +1,6 @@
 //! Carts that are settled: priced again and again, until a further round leaves prices and rules as
 //! they are.
 //!
-//! Public is `settle` alone. No other crate calls it yet.
-//!
 //! # What is promised
 //!
 //! - `settle` prices a cart in rounds, the first by no rules and each other by those that hold of the cart
@@ -12,6 +10,8 @@
 //!   in their order (`IsSettled`).
 //! - It is `Unstable` exactly where no two of seven rounds in a row give the same, and `NoSuchCart` exactly
 //!   where there is no such cart (`IsRefused`). Want of memory is its only other error.
+//! - What a cart is settled at, or why it isn't, is one value of the rows and the moment
+//!   (`law_of_the_answer`).
 //! - The rows of the cart and all rules are collected once, and every round goes over them.
 //! - It asks that each row is as its entity has it, and that no cart has more than 100 lines
 //!   (`AreCartRows`), as in all rows that were checked.
@@ -21,6 +21,7 @@ mod cart;
 mod facts;
 mod fault;
 mod labels;
+mod laws;
 mod numbers;
 mod rounds;
 mod rules;
@@ -30,3 +31,4 @@ mod state;
 
 pub use cart::settle;
 pub use fault::CartRefused;
+pub use laws::law_of_the_answer;

@@ -5,3 +5,4 @@ pub mod Carts
 pub mod Assembled
 pub mod Shown
 pub mod Chosen
+pub mod ShippingChosen

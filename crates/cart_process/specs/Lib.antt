@@ -2,6 +2,7 @@ pub mod Words
 pub mod Causes
 pub mod Units
 pub mod Choice
+pub mod ShippingChoice
 pub mod Kept
 pub mod LinePrices
 pub mod Offers

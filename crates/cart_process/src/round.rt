@@ -7,6 +7,9 @@ ghost use Rattle.cart_price.specs.Lent.{LineRows, cart_rows};
 ghost use Rattle.cart_price.specs.Nearest.{is_interval};
 ghost use Rattle.cart_sums.specs.Taxes.{most};
 ghost use Rattle.cart_process.specs.Choice.{IsChoice};
+ghost use Rattle.cart_process.specs.Deliveries.{shipping_price};
+ghost use Rattle.cart_process.specs.ShippingChoice.{IsShippingChoice};
+ghost use Rattle.cart_process.specs.declared.deliveries.Measures.{Measures};
 ghost use Rattle.cart_process.specs.Fitting.{GoodsFit, SendingFits};
 ghost use Rattle.cart_process.specs.Kept.{IsCartKept, ShippedFits};
 ghost use Rattle.cart_process.specs.LinePrices.{quantity_of};
@@ -45,6 +48,9 @@ pub fn process(
     // The price row that decides is that of the first rule that has one, from the most pieces on of
     // those for so many pieces.
     ensures choice { IfOk result (λ _. (line : LineRows) → IsChoice rules.now (quantity_of line.line) line.prices (deciding rules.now (quantity_of line.line) line.prices)) }
+    // The price of a delivery that is taken is that of the first rule that has one that may be used, and
+    // where none has, one without a rule: the one from the highest bound on, and of several the first.
+    ensures shipping { IfOk result (λ _. (measures : Measures) → IsShippingChoice rules.now measures (cart_rows lent.now).shipping (shipping_price rules.now measures (cart_rows lent.now).shipping)) }
     // Rates ascend, and each tax is within its amount.
     ensures taxes { IfOk result (λ cart. AreTaxesShown (words.state_of lent.now.cart.now) (words.mode_of lent.now.cart.now) cart.taxes) }
 {

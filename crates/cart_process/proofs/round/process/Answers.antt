@@ -6,6 +6,7 @@ use Rattle.cart_process.specs.Priced as spec
 use Rattle.cart_process.specs.Shown.{AddsUp}
 use Rattle.cart_process.proofs.Assembled.{assembled}
 use Rattle.cart_process.proofs.Chosen.{is_choice}
+use Rattle.cart_process.proofs.ShippingChosen.{is_shipping_choice}
 use Rattle.cart_process.proofs.Shown.{adds-up, interval-kept}
 use Rattle.cart_process.proofs.round.process.Goals as goal
 
@@ -33,6 +34,9 @@ returns-clause-sum c =
 
 pub returns-clause-choice : goal.returns-clause-choice
 returns-clause-choice c = λ line. is_choice c.args.rules.now (quantity_of line.line) line.prices
+
+pub returns-clause-shipping : goal.returns-clause-shipping
+returns-clause-shipping c = λ measures. is_shipping_choice c.args.rules.now measures (cart_rows c.args.lent.now).shipping
 
 pub returns-clause-taxes : goal.returns-clause-taxes
 returns-clause-taxes c =
