@@ -1,4 +1,4 @@
-//! The responses that are always the same. They take no memory.
+//! The responses that are always the same. They are made here and nowhere else, and take no memory.
 ghost use Rattle.std.specs.Prelude.{◌≡◌};
 ghost use Rattle.shop_http.specs.Responses as spec;
 

@@ -12,7 +12,7 @@
 //!   `law_of_the_end`: a head ends at the first empty line behind a line end.
 //! - `put_response` puts the bytes of a response (`response_text`), with the phrase of the crate
 //!   `http`; `put_head` and `put` put them where there is room, and then can't fail. The responses
-//!   that are always the same are the same definition's bytes.
+//!   that are always the same are made in one place, and are the same definition's bytes.
 #![tactic(auto)]
 
 mod fields;

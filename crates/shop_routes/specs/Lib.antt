@@ -1,5 +1,6 @@
 pub mod DigitTexts
 pub mod PathParts
+pub mod Gathered
 pub mod Paths
 pub mod Settings
 pub mod Laws

@@ -97,7 +97,9 @@ abbrev pub reply_to : State → shop.Request → ℤ → Reply
 reply_to state (requests.Write command) moment = written (state.number + 1) (write_at state command moment)
 reply_to state (requests.Row read) moment = shown (answered replies.Row (reading state.rows read))
 reply_to state (requests.RowList entity id second) moment = shown (answered replies.RowList (with_bare (listing state.rows entity id second)))
-reply_to state request moment = replies.Line lines.NotBuilt
+reply_to state (requests.Indexed query min_front) moment = replies.Line lines.NotBuilt
+reply_to state (requests.Cart cart) moment = replies.Line lines.NotBuilt
+reply_to state requests.Front moment = replies.Line lines.NotBuilt
 
 abbrev pub reply : State → Form → ℤ → Reply
 reply state (asks request) moment = reply_to state request moment

@@ -3,7 +3,9 @@ ghost use Rattle.std.specs.Prelude.{◌≡◌};
 ghost use Rattle.shop_server.specs.Cutting as spec;
 ghost use Rattle.shop_server.specs.Run.{fatal_text};
 
-use shop_http::{HeadFault, not_built_response};
+use shop_http::{
+    HeadFault, bad_head_response, body_too_large_response, chunked_response, not_built_response,
+};
 
 /// Why what stands at the front of a stream isn't served.
 #[derive(Clone, Copy)]
@@ -17,15 +19,6 @@ pub enum Refusal {
     /// Its body is longer than a body may be.
     TooLarge,
 }
-
-const BAD_HEAD: &[u8] =
-    b"HTTP/1.1 400 Bad Request\r\ncontent-type: application/json\r\ncontent-length: 20\r\nconnection: close\r\n\r\n{\"error\":\"bad_head\"}";
-
-const CHUNKED: &[u8] =
-    b"HTTP/1.1 501 Not Implemented\r\ncontent-type: application/json\r\ncontent-length: 19\r\nconnection: close\r\n\r\n{\"error\":\"chunked\"}";
-
-const TOO_LARGE: &[u8] =
-    b"HTTP/1.1 413 Payload Too Large\r\ncontent-type: application/json\r\ncontent-length: 26\r\nconnection: close\r\n\r\n{\"error\":\"body_too_large\"}";
 
 impl Refusal {
     /// Why a head is refused.
@@ -45,9 +38,9 @@ impl Refusal {
     {
         match self {
             Refusal::NotBuilt => not_built_response(),
-            Refusal::BadHead => BAD_HEAD,
-            Refusal::Chunked => CHUNKED,
-            Refusal::TooLarge => TOO_LARGE,
+            Refusal::BadHead => bad_head_response(),
+            Refusal::Chunked => chunked_response(),
+            Refusal::TooLarge => body_too_large_response(),
         }
     }
 }

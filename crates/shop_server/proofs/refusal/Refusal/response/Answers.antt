@@ -12,12 +12,12 @@ returns-in-NotBuilt c = c.not_built_response.ensures ∙ ap fatal_text (sym c.in
 
 pub returns-in-BadHead : goal.returns-in-BadHead
 unfolding response_text start_line content_lines digits reply_body escape_byte
-returns-in-BadHead c = ap fatal_text (sym c.in-BadHead.is)
+returns-in-BadHead c = c.bad_head_response.ensures ∙ ap fatal_text (sym c.in-BadHead.is)
 
 pub returns-in-Chunked : goal.returns-in-Chunked
 unfolding response_text start_line content_lines digits reply_body escape_byte
-returns-in-Chunked c = ap fatal_text (sym c.in-Chunked.is)
+returns-in-Chunked c = c.chunked_response.ensures ∙ ap fatal_text (sym c.in-Chunked.is)
 
 pub returns-in-TooLarge : goal.returns-in-TooLarge
 unfolding response_text start_line content_lines digits reply_body escape_byte
-returns-in-TooLarge c = ap fatal_text (sym c.in-TooLarge.is)
+returns-in-TooLarge c = c.body_too_large_response.ensures ∙ ap fatal_text (sym c.in-TooLarge.is)
