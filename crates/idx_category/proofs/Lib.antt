@@ -1,0 +1,4 @@
+pub mod Steps
+pub mod Walks
+pub mod Counts
+pub mod Moves

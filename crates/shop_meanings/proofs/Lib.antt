@@ -1,0 +1,5 @@
+pub mod Found
+pub mod Walks
+pub mod Levels
+pub mod Paths
+pub mod Worked

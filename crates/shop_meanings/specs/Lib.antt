@@ -1,0 +1,5 @@
+pub mod Live
+pub mod Categories
+pub mod Direct
+pub mod Laws
+pub mod WorkedRows
