@@ -1,5 +1,8 @@
-mod Keys
+pub mod Keys
 pub mod Orders
+pub mod OwnParts
+pub mod HeldOps
+pub mod Unwritten
 pub mod Apart
 pub mod Shown
 pub mod Seen

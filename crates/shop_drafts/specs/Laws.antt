@@ -1,21 +1,25 @@
 -- What holds of drafts and merges.
-use Rattle.std.specs.Prelude.{◌≡◌, ◌≢◌, ℕ, ◌++◌, ◌==◌, ◌&&◌, ◌||◌, true, List, [], filter, Result, Ok, Err}
+use Rattle.std.specs.Prelude.{◌≡◌, ◌≢◌, ℕ, ◌++◌, ◌==◌, ◌&&◌, ◌||◌, true, List, [], filter, Some, Result, Ok, Err}
+use Rattle.closure.specs.Closure.{IsIn}
 use Rattle.shop_defs.specs.declared.broken.Broken.{Broken}
 use Rattle.shop_requests.specs.declared.raw.RawOp.{RawOp}
 use Rattle.shop_defs.specs.declared.row.Row.{Row}
 use Rattle.shop_defs.specs.Rows.{IsInKeyOrder}
 use Rattle.shop_soundness.specs.Batches.{batch}
-use Rattle.shop_operations.specs.References.{is_entity, is_id, ident, live}
+use Rattle.shop_operations.specs.References.{is_entity, is_id, ident, live, of_version}
 use Rattle.shop_defs.specs.declared.entity.Entity.{Entity}
 use Rattle.shop_defs.specs.declared.entity.Entity.TheVariants as E
 use Rattle.shop_defs.specs.Rows.{field_of}
 use Rattle.shop_drafts.specs.Aggregates.{is_part, is_root}
 use Rattle.shop_operations.specs.Views.{View, live_view, drafted, IsInPlaceOrder}
-use Rattle.shop_drafts.specs.Drafts.{over, shown_rows}
+use Rattle.shop_drafts.specs.Drafts.{over, root_in, shown_rows}
 use Rattle.shop_drafts.specs.Making.{make_draft, dropped, drop_draft, is_of_draft}
 use Rattle.shop_drafts.specs.Merging.{Logged, logged_from, log, replayed, merge}
 use Rattle.shop_drafts.specs.Writing.{next_number, read_all, batch_in, draft_write}
 use Rattle.shop_drafts.specs.Damage.{passes_draft}
+use Rattle.shop_drafts.specs.Soundness.{is_change}
+use Rattle.shop_operations.specs.Soundness.{IsCoherent}
+use Rattle.shop_soundness.specs.WellFormed.{AreWellFormed, unwritten}
 use Rattle.shop_defs.specs.Fitting.{row_key_fits}
 use Rattle.std.specs.List.{list_all}
 use Rattle.shop_drafts.specs.declared.aggregate.Root.{Root}
@@ -45,6 +49,17 @@ pub record MergesAreReplays : Type 0 where
   -- nothing is left of the draft
   pub gone : (rows after : List Row) (version : ℕ) → merge rows version ≡ Ok after → filter (is_of_draft version) after ≡ []
 
+-- commits may hold each of the operations
+abbrev pub AreHeld : List Logged → Type 0
+AreHeld entries = list_all (λ (entry : Logged). is_change entry.op) entries ≡ true
+
+-- A replay of operations that commits may hold keeps the rows of a view coherent, and well formed, and leaves those that
+-- operations may not write just as they were: among them drafts and their commits.
+pub record ReplaysKeepRows : Type 0 where
+  pub coherent : (view : View) (entries : List Logged) (now : List Row) → IsCoherent view → AreHeld entries → replayed view entries ≡ Ok now → IsCoherent (record view { rows = now })
+  pub formed : (view : View) (entries : List Logged) (now : List Row) → AreWellFormed view.rows → AreHeld entries → replayed view entries ≡ Ok now → AreWellFormed now
+  pub others : (view : View) (entries : List Logged) (now : List Row) → AreHeld entries → replayed view entries ≡ Ok now → unwritten now ≡ unwritten view.rows
+
 -- What a draft edits: of a product its row, its translations, its links to categories and its prices; of a category its row and
 -- its translations; and of nothing else a draft may be made.
 pub record PartsAreThese : Type 0 where
@@ -65,6 +80,16 @@ pub record DraftsAreViews : Type 0 where
   pub formed : (rows : List Row) (version : ℕ) (root : Root) → list_all (λ row. row_key_fits row.key) rows ≡ true → list_all (λ row. row_key_fits row.key) (over rows version root) ≡ true
   -- an accepted batch leaves what the same operations leave of any view with these rows
   pub as_batches : (root : Root) (view : View) (number : ℕ) (ops : List RawOp) (now : List Row) → batch_in root view number ops ≡ Ok now → batch view number ops ≡ Ok now
+
+-- the rows of that version, and no others, are part of what a draft of the root edits
+abbrev pub Agree : Root → ℕ → List Row → Type 0
+Agree root version rows = (row : Row) → IsIn row rows → (row.key.version == version) ≡ is_part root row
+
+-- What a draft shows of its own version is what it edits, also after batches in it: so a write may keep either.
+pub record DraftsShowTheirParts : Type 0 where
+  pub at_first : (rows : List Row) (version : ℕ) (root : Root) → list_all (passes_draft rows) rows ≡ true → version ≢ 0 → root_in rows version ≡ Some root → Agree root version (over rows version root)
+  pub batches : (root : Root) (view : View) (number : ℕ) (ops : List RawOp) (now : List Row) → Agree root view.version view.rows → batch_in root view number ops ≡ Ok now → Agree root view.version now
+  pub are : (root : Root) (version : ℕ) (rows : List Row) → Agree root version rows → of_version version rows ≡ filter (is_part root) rows
 
 -- what is shown by each version but this, without the rows that keep this draft, is as before
 abbrev pub OthersShowTheSame : ℕ → List Row → List Row → Type 0

@@ -4,5 +4,6 @@ pub mod Making
 pub mod Writing
 pub mod Merging
 pub mod Damage
+pub mod Soundness
 pub mod Laws
 pub mod WorkedRows

@@ -50,6 +50,9 @@ pub const COMMITS: u8 = 3;
 /// The number of a commit's field that holds how many operations it has.
 pub const COUNT: u8 = 1;
 
+/// The greatest number of operations of a commit, as of a batch.
+pub const MOST_OPS: usize = 1000;
+
 /// The row that a draft is made of.
 #[derive(Drop, Clone, Copy)]
 pub struct Root {

@@ -1,5 +1,5 @@
 //! What holds of drafts and merges, in functions that do no work.
-ghost use Rattle.shop_drafts.specs.Laws.{DraftsAreViews, MergesAreReplays, NothingElseChanges, PartsAreThese};
+ghost use Rattle.shop_drafts.specs.Laws.{DraftsAreViews, DraftsShowTheirParts, MergesAreReplays, NothingElseChanges, PartsAreThese, ReplaysKeepRows};
 ghost use Rattle.shop_drafts.specs.WorkedRows.{TheTeeIsMerged, TheMergeIsBroken, ADraftMayRunInACircle};
 
 /// What is part of a product or a category where a draft of it is edited.
@@ -13,10 +13,20 @@ pub fn law_of_the_views()
     ensures { DraftsAreViews }
 {}
 
+/// The rows of its version that a draft shows are those that it edits, also after batches in it.
+pub fn law_of_the_parts_shown()
+    ensures { DraftsShowTheirParts }
+{}
+
 /// A merge is the replay of the draft's operations, one after the other as live batches do them, and
 /// leaves nothing of the draft.
 pub fn law_of_merges()
     ensures { MergesAreReplays }
+{}
+
+/// A replay keeps live rows coherent and well formed, and leaves drafts and their commits.
+pub fn law_of_replays()
+    ensures { ReplaysKeepRows }
 {}
 
 /// What is done with a draft changes nothing beside it.

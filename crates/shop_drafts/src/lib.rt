@@ -12,6 +12,8 @@
 //!   (`passes_draft`).
 //! - `law_of_the_views`: what a draft shows is in the order of places, its keys are formed, and an
 //!   accepted batch in it is the same batch over what it shows.
+//! - `law_of_the_parts_shown`: the rows of its version that a draft shows are those that it edits, also
+//!   after batches in it.
 //! - `law_of_other_rows`: making, writing and dropping a draft leave all rows that aren't of it as
 //!   they were, and what live and each other draft show, too, but for the rows that keep the draft. A
 //!   merge leaves the rows of all other drafts.
@@ -19,6 +21,8 @@
 //!   had. What a merge leaves in live is what the replay of the log leaves, one operation after the
 //!   other; operations that a batch accepts are replayed to what it left; of the draft nothing stays;
 //!   and a draft that was made and merged at once changes nothing.
+//! - `law_of_replays`: a replay keeps live rows coherent and well formed, and leaves drafts, their
+//!   commits and all else that operations may not write as they were.
 //! - `law_of_the_worked_rows` has two days of a shop as the definitions compute them.
 //! - Nothing here is done yet by a call: `specs/` is what later calls are held to.
 #![tactic(auto)]
@@ -26,7 +30,11 @@
 mod aggregate;
 mod laws;
 
-pub use aggregate::{MEMBERS, Member, Root, has_versions, is_part, is_root};
+pub use aggregate::{
+    COMMITS, COUNT, MEMBERS, MOST_OPS, Member, ROOT, ROOT_ENTITY, Root, has_versions, is_part,
+    is_root,
+};
 pub use laws::{
-    law_of_merges, law_of_other_rows, law_of_the_parts, law_of_the_views, law_of_the_worked_rows,
+    law_of_merges, law_of_other_rows, law_of_replays, law_of_the_parts, law_of_the_parts_shown,
+    law_of_the_views, law_of_the_worked_rows,
 };
