@@ -6,6 +6,7 @@ use crate::tests::damage::{
     FILTERS_AND_A_LOOP, FILTERS_TO_64,
 };
 use crate::tests::replies::{REPLIES, REPLIES_WITH, is_replied, is_replied_with, is_row_printed};
+use crate::tests::shapes::{SHAPES, is_shaped};
 use crate::tests::stores::{
     CUT_REPORTS, FAILED_WRITES, FAULTS, OPENED, REPORT, UNASKED, WORDS, WRITE_AND_READ,
 };
@@ -21,6 +22,7 @@ mod calls;
 mod damage;
 mod messages;
 mod replies;
+mod shapes;
 mod stores;
 mod streams;
 mod views;
@@ -329,6 +331,14 @@ fn replies_and_calls_to_come(rt: HostRuntime) -> Result<(), Fail> {
             "{} of {}",
             given.2,
             given.0
+        );
+    }
+    for shape in &SHAPES {
+        assert!(rt;
+            is_well(is_shaped(alloc, *shape)),
+            "{} and {}",
+            shape.0,
+            shape.1
         );
     }
     for (entity, presets) in [(Entity::Category, 2), (Entity::Cart, 3), (Entity::Tax, 0)] {
