@@ -11,3 +11,5 @@ pub mod Stepping
 pub mod TableLines
 pub mod Listed
 pub mod ReadWords
+pub mod SoundCarts
+pub mod NameTexts

@@ -5,6 +5,7 @@ pub mod Shops
 pub mod Plans
 pub mod Commits
 pub mod Opening
+pub mod Carts
 pub mod Requests
 pub mod Seeing
 pub mod FirstBroken

@@ -15,6 +15,9 @@ use Rattle.shop_requests.specs.Operations.{or_else, wrong_second}
 use Rattle.shop_defs.specs.Rows.{row_at}
 use Rattle.shop_defs.specs.Tables.{entity_named, info_named}
 use Rattle.shop_operations.specs.References.{is_entity, is_live}
+use Rattle.cart_loop.specs.declared.fault.CartRefused.{CartRefused}
+use Rattle.cart_loop.specs.declared.fault.CartRefused.TheVariants as carts
+use Rattle.cart_loop.specs.Answer.{settling}
 use Rattle.shop_chain.specs.Chains.{chain_of}
 use Rattle.shop_chain.specs.Showing.{shown}
 use Rattle.shop_core.specs.declared.answers.AskFault.{AskFault}
@@ -110,12 +113,22 @@ abbrev pub IsBuiltRequest : Request → Type 0
 IsBuiltRequest (requests.Write command) = IsBuilt command
 IsBuiltRequest (requests.Row read) = Unit {0}
 IsBuiltRequest (requests.RowList entity id second) = Unit {0}
+IsBuiltRequest (requests.Cart cart) = Unit {0}
 IsBuiltRequest request = ⊥
 
 -- the answer to a read that shows nothing
 abbrev pub not_shown : AskFault → Reply
 not_shown (asking.Refused broken) = replies.Refused (record { op = 0; broken = broken })
 not_shown asking.NoMemory = replies.NoMemory
+
+abbrev pub broken_by : Broken → Reply
+broken_by broken = replies.Refused (record { op = 0; broken = broken })
+
+-- the answer to a cart that isn't settled
+abbrev pub not_settled : ℕ → CartRefused → Reply
+not_settled cart carts.NoSuchCart = broken_by (B.NoSuchCart cart)
+not_settled cart carts.Unstable = broken_by (B.Unstable cart)
+not_settled cart carts.NoMemory = replies.NoMemory
 
 -- a read changes nothing, and is answered by what it shows
 abbrev pub IsRead : ShopView → Reply → Result Reply Broken → ShopView → Type 0
@@ -126,6 +139,10 @@ IsRead old reply shown now = (shown ≡ Ok reply) × (now ≡ old)
 abbrev pub answered : {X : Type 0} → (X → Reply) → Result X Broken → Result Reply Broken
 answered reply (Ok value) = Ok (reply value)
 answered reply (Err broken) = Err broken
+
+-- what is answered of a cart at a moment: what it is settled at, beside how many entries are accepted; or the rule that is broken
+abbrev pub cart_answer : List Row → ℕ → ℕ → ℤ → Result Reply Broken
+cart_answer rows number cart moment = answered (λ settled. replies.Cart number settled) (settling rows cart moment)
 
 -- a write is answered as its commit is
 abbrev pub IsWritten : ShopView → Reply → ℤ → Request → ShopView → Type 0
@@ -140,4 +157,5 @@ abbrev pub Answers : ShopView → Request → ℤ → Reply → ShopView → Typ
 Answers old (requests.Write command) moment reply now = IsWritten old reply moment (requests.Write command) now
 Answers old (requests.Row read) moment reply now = IsRead old reply (answered replies.Row (reading old.rows read)) now
 Answers old (requests.RowList entity id second) moment reply now = IsRead old reply (answered replies.RowList (with_bare (listing old.rows entity id second))) now
+Answers old (requests.Cart cart) moment reply now = IsRead old reply (cart_answer old.rows old.number cart moment) now
 Answers old request moment reply now = ⊥

@@ -4,6 +4,8 @@ ghost use Rattle.shop_core.specs.declared.answers.AskFault.TheVariants as asking
 ghost use Rattle.shop_core.specs.declared.answers.CommitFault.TheVariants as committing;
 ghost use Rattle.shop_core.specs.Requests as spec;
 
+use cart_loop::CartRefused;
+use cart_price::Settled;
 use shop_chain::Shown;
 use shop_check::Rule;
 use shop_defs::{Broken, Key, List, NoMemory, Refused, Row, Txt, Value};
@@ -125,7 +127,7 @@ pub enum Request {
         /// How many accepted entries the answer has to have seen at least.
         min_front: u64,
     },
-    /// To price a cart. No call of this crate answers it yet.
+    /// To price a cart.
     Cart {
         /// The id of the cart.
         cart: u128,
@@ -143,6 +145,13 @@ pub enum Reply {
     Row(RowReply),
     /// The rows that are listed, in the order of their keys.
     RowList(List<RowReply>),
+    /// The cart that is settled.
+    Cart {
+        /// So many entries are accepted.
+        front: u64,
+        /// The cart as it is settled by the rows after these.
+        settled: Settled,
+    },
     /// How many entries there are. No call of this crate answers it yet.
     Front {
         /// So many are accepted.
@@ -175,5 +184,23 @@ pub(crate) fn not_shown(fault: AskFault) -> Reply
     match fault {
         AskFault::Refused(broken) => Reply::Refused(Refused { op: 0, broken }),
         AskFault::NoMemory => Reply::NoMemory,
+    }
+}
+
+/// The answer to a read that breaks that rule.
+fn broken_by(broken: Broken) -> Reply
+    ensures { result ≡ spec.broken_by broken }
+{
+    Reply::Refused(Refused { op: 0, broken })
+}
+
+/// The answer to a cart that isn't settled.
+pub(crate) fn not_settled(cart: u128, fault: CartRefused) -> Reply
+    ensures { result ≡ spec.not_settled cart fault }
+{
+    match fault {
+        CartRefused::NoSuchCart => broken_by(Broken::NoSuchCart { id: cart }),
+        CartRefused::Unstable => broken_by(Broken::Unstable { id: cart }),
+        CartRefused::NoMemory => Reply::NoMemory,
     }
 }

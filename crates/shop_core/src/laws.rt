@@ -1,4 +1,5 @@
 //! What holds of steps and histories.
+ghost use Rattle.shop_core.specs.Carts.{SoundNamesAreTexts, SoundRowsAreCartRows};
 ghost use Rattle.shop_core.specs.Commits.{CommitsAreTheReplay};
 ghost use Rattle.shop_core.specs.Steps.{LiveRowsAreReplaced};
 ghost use Rattle.shop_core.specs.History.{OneEntryMore, PrefixesStay, EachIsCounted, RowsStaySound};
@@ -32,4 +33,14 @@ pub fn law_of_sound_rows()
 /// After any list of commits, the rows and the number are the replay of the accepted ones.
 pub fn law_of_the_commits()
     ensures { CommitsAreTheReplay }
+{}
+
+/// Sound rows are all that is relied on where a cart is settled.
+pub fn law_of_cart_rows()
+    ensures { SoundRowsAreCartRows }
+{}
+
+/// The lines of a cart of sound rows are called by their products' names byte by byte.
+pub fn law_of_the_names()
+    ensures { SoundNamesAreTexts }
 {}

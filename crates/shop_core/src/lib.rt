@@ -19,6 +19,10 @@
 //!   `read_list` which rows are listed (`listing`); `see_row` and `see_list` lend the same, and
 //!   `answer` is all of these for a request. In words: where a read breaks a rule, no earlier one is
 //!   broken (`first`), and what is shown breaks none (`kept`).
+//! - `read_cart` gives what a cart is settled at by the present rows at a moment, beside the number of
+//!   accepted entries, or the rule that is broken (`reads`), in words too (`settled`). It asks nothing
+//!   more of the rows than that they are sound (`law_of_cart_rows`), and its lines are called by names
+//!   byte by byte (`law_of_the_names`).
 //! - A shop, its rows and the keeper in memory may be handed to another thread, and lent to several
 //!   (`law_of_threads`).
 //! - Laws: live rows that are put in place of others stand so (`law_of_live_rows`); histories with
@@ -39,8 +43,8 @@ pub use answers::{
     AskFault, CommitFault, Done, Entry, OpenFault, Reply, Request, RowReply, RowSeen,
 };
 pub use laws::{
-    law_of_counting, law_of_live_rows, law_of_one_entry_more, law_of_prefixes, law_of_sound_rows,
-    law_of_the_commits,
+    law_of_cart_rows, law_of_counting, law_of_live_rows, law_of_one_entry_more, law_of_prefixes,
+    law_of_sound_rows, law_of_the_commits, law_of_the_names,
 };
 pub use state::{ShopState, open_shop};
 pub use threads::law_of_threads;

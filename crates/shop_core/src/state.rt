@@ -7,15 +7,20 @@ ghost use Rattle.shop_core.specs.Steps.{IsBuilt};
 ghost use Rattle.shop_core.specs.Shops.{ShopView, IsShop};
 ghost use Rattle.shop_core.specs.Commits.{Commits};
 ghost use Rattle.shop_core.specs.Opening.{Opens, HasOpenCause, IsNoDamage};
-ghost use Rattle.shop_core.specs.Requests.{Answers, IsBuiltRequest, Shows, listing, reading, with_bare};
+ghost use Rattle.cart_loop.specs.Settled.{IsRefused, IsSettled};
+ghost use Rattle.shop_core.specs.Carts.{ReadsCart};
+ghost use Rattle.shop_core.specs.Requests.{Answers, IsBuiltRequest, IsRead, Shows, cart_answer, listing, reading, with_bare};
 ghost use Rattle.shop_core.specs.Seeing.{Sees, SeesRows};
 ghost use Rattle.shop_core.specs.FirstBroken.{KeepsRules, NamesFirst};
 
 use crate::answers::{
-    AskFault, CommitFault, Done, OpenFault, Reply, Request, RowReply, RowSeen, not_shown,
+    AskFault, CommitFault, Done, OpenFault, Reply, Request, RowReply, RowSeen, not_settled,
+    not_shown,
 };
 use crate::plan::{encode_changes, plan};
 use crate::read::{copy_list, copy_row, see_list, see_row};
+use cart_loop::{CartRefused, settle};
+use cart_price::Settled;
 use shop_check::{CheckFault, check_rows};
 use shop_defs::{Broken, List, PlanFault, Refused, Row};
 use shop_outside::{KeepFault, Keeper, Moment};
@@ -213,8 +218,47 @@ impl<P: Keeper + Drop> ShopState<P> {
         see_list(alloc, &self.rows, entity, id, second)
     }
 
-    /// Answers one request that is built: a write as `commit` does, and a read as `read_row` or `read_list` does,
-    /// which changes nothing.
+    /// The live cart with that id as it is settled at a moment by the present rows, and how many
+    /// entries were accepted by then. Nothing is changed.
+    ///
+    /// # Errors
+    ///
+    /// `NoSuchCart` comes exactly where there is no such cart, `Unstable` exactly where no two of its
+    /// seven rounds in a row give the same, and `NoMemory` where memory is refused.
+    #[tactic(auto, using(crate::proofs::SoundCarts::sound_rows, crate::proofs::SoundCarts::reads, crate::proofs::SoundCarts::refuses))]
+    pub fn read_cart(
+        &self,
+        alloc: Global,
+        cart: u128,
+        moment: Moment,
+    ) -> Result<(u64, Settled), CartRefused>
+        requires moment { IsMoment moment }
+        ensures reads { ReadsCart self.now cart moment result }
+        // In words: it is settled so, or isn't for that cause.
+        ensures settled { MatchResult result (λ answer. IsSettled self.now.rows cart moment answer.1) (IsRefused self.now.rows cart moment) }
+        ensures shop { IsShop self.now }
+    {
+        match settle(alloc, &self.rows, cart, moment) {
+            Ok(settled) => Ok((self.number, settled)),
+            Err(fault) => Err(fault),
+        }
+    }
+
+    /// Answers what a cart is settled at.
+    #[tactic(auto, using(crate::proofs::SoundCarts::shows, crate::proofs::SoundCarts::shows_none))]
+    fn answer_cart(&self, alloc: Global, cart: u128, moment: Moment) -> Reply
+        requires moment { IsMoment moment }
+        ensures answers { IsRead self.now result (cart_answer self.now.rows self.now.number cart moment) self.now }
+        ensures shop { IsShop self.now }
+    {
+        match self.read_cart(alloc, cart, moment) {
+            Ok((front, settled)) => Reply::Cart { front, settled },
+            Err(fault) => not_settled(cart, fault),
+        }
+    }
+
+    /// Answers one request that is built: a write as `commit` does, and a read as `read_row`, `read_list` or
+    /// `read_cart` does, which changes nothing.
     pub fn answer(&mut self, alloc: Global, request: &Request, moment: Moment) -> Reply
         requires built { IsBuiltRequest request.now }
         requires moment { IsMoment moment }
@@ -238,6 +282,7 @@ impl<P: Keeper + Drop> ShopState<P> {
                     Err(fault) => not_shown(fault),
                 }
             }
+            Request::Cart { cart } => self.answer_cart(alloc, *cart, moment),
             _ => unreachable!(),
         }
     }

@@ -2,6 +2,7 @@
 use Rattle.std.specs.Prelude.{ℕ, ℤ, List, [], ◌∷◌, map, codes, Option, Some, None}
 use Rattle.serde_json.specs.Data.{Data, string}
 use Rattle.serde_json.specs.Written.{compact_text}
+use Rattle.cart_json.specs.CartReplies.{settled_data}
 use Rattle.shop_core.specs.declared.answers.Reply.{Reply}
 use Rattle.shop_core.specs.declared.answers.Reply.TheVariants as R
 use Rattle.shop_chain.specs.Showing.{ShownList}
@@ -23,6 +24,7 @@ abbrev pub reply_data : Reply → Data
 reply_data (R.Done done) = done_data done.front done.value
 reply_data (R.Row reply) = row_data reply.row (if_any reply.shown)
 reply_data (R.RowList replies) = rows_data (map (λ reply. reply.row) replies)
+reply_data (R.Cart front settled) = settled_data front settled
 reply_data (R.Front accepted published) = front_data accepted published
 reply_data (R.FrontUnknown asked have) = front_unknown_data asked have
 reply_data (R.Refused refused) = refusal_data refused
@@ -34,6 +36,7 @@ abbrev pub reply_status : Reply → ℕ
 reply_status (R.Done done) = 200
 reply_status (R.Row reply) = 200
 reply_status (R.RowList replies) = 200
+reply_status (R.Cart front settled) = 200
 reply_status (R.Front accepted published) = 200
 reply_status (R.FrontUnknown asked have) = 409
 reply_status (R.Refused refused) = refusal_status refused.broken

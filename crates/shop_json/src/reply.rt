@@ -7,6 +7,8 @@ ghost use Rattle.shop_core.specs.Requests.{bare};
 ghost use Rattle.shop_core.specs.Seeing.{reply_of};
 ghost use Rattle.shop_json.specs.Replying as spec;
 
+use cart_json::settled_text;
+use cart_price::Settled;
 use reply_json::{
     done_text, fault_status, fault_text, front_text, front_unknown_text, refusal_status,
     refusal_text, row_text, rows_text, seen_text,
@@ -30,6 +32,7 @@ pub fn reply_text(alloc: Global, reply: &Reply) -> Result<(u16, List<u8>), NoMem
         Reply::Done(done) => Ok((200, done_text(alloc, done.front, done.value)?)),
         Reply::Row(reply) => Ok((200, row_text(alloc, &reply.row, if_any(&reply.shown))?)),
         Reply::RowList(replies) => Ok((200, replied_text(alloc, replies.as_slice())?)),
+        Reply::Cart { front, settled } => Ok((200, settled_body(alloc, *front, settled)?)),
         Reply::Front {
             accepted,
             published,
@@ -95,6 +98,28 @@ pub fn seen_list_text(alloc: Global, room: &mut Vec<u8>, rows: &[&Row]) -> Resul
     ensures { OnOk result (room.new.items ≡ spec.reply_body (replies.RowList (map (λ row. bare row.now) rows.now))) }
 {
     rows_text(alloc, room, rows)
+}
+
+/// The body that shows a settled cart.
+fn settled_body(alloc: Global, front: u64, settled: &Settled) -> Result<List<u8>, NoMemory>
+    ensures { IfOk result (λ body. body ≡ spec.reply_body (replies.Cart front settled.now)) }
+{
+    let mut room = Vec::new(alloc);
+    cart_text(alloc, &mut room, front, settled)?;
+    Ok(List::from_vec(room))
+}
+
+/// Prints the body of the reply that shows a settled cart, as `seen_row_text` does.
+#[tactic(auto, unfolding(crate::specs::Replying::reply_body))]
+pub fn cart_text(
+    alloc: Global,
+    room: &mut Vec<u8>,
+    front: u64,
+    settled: &Settled,
+) -> Result<(), NoMemory>
+    ensures { OnOk result (room.new.items ≡ spec.reply_body (replies.Cart front settled.now)) }
+{
+    settled_text(alloc, room, front, settled)
 }
 
 fn copy_body(alloc: Global, body: &[u8]) -> Result<List<u8>, NoMemory>

@@ -4,11 +4,12 @@ use Rattle.shop_requests.specs.declared.route.Route.{Route}
 use Rattle.shop_requests.specs.declared.route.Route.TheVariants as routes
 use Rattle.shop_routes.specs.Routing.{Fault}
 
--- what is answered so far: a batch for the live version, a row, and a list of rows
+-- what is answered so far: a batch for the live version, a row, a list of rows, and a cart
 abbrev pub is_later : Route → Bool
 is_later (routes.Sync version) = not (version == 0)
 is_later (routes.Row read) = false
 is_later (routes.RowList entity id second) = false
+is_later (routes.Cart cart) = false
 is_later _ = true
 
 -- a request that breaks no rule asks for what isn't answered yet

@@ -51,7 +51,7 @@ pub struct Asks<'b> {
 
 impl<'b> Looked<'b> {
     /// Whether it is something that isn't answered yet: anything but a batch for the live version, a
-    /// row, or a list of rows.
+    /// row, a list of rows, or a cart.
     pub fn asks_later(&self) -> bool
         ensures { result ≡ asks_later (meant self.now) }
     {
@@ -68,7 +68,7 @@ fn is_later(endpoint: Endpoint, headers: &Headers) -> bool
 {
     match endpoint {
         Endpoint::Sync => headers.version != 0,
-        Endpoint::Row | Endpoint::RowList => false,
+        Endpoint::Row | Endpoint::RowList | Endpoint::Cart => false,
         _ => true,
     }
 }

@@ -49,7 +49,9 @@ left_counts : (way : Way) (state : State) (form : Form) (moment : ℤ) → (left
 left_counts worked_out state (asks (requests.Write command)) moment = step_counts state (write_at state command moment)
 left_counts worked_out state (asks (requests.Row read)) moment = omega arith
 left_counts worked_out state (asks (requests.RowList entity id second)) moment = omega arith
-left_counts worked_out state (asks request) moment = omega arith
+left_counts worked_out state (asks (requests.Cart cart)) moment = omega arith
+left_counts worked_out state (asks (requests.Indexed query min_front)) moment = omega arith
+left_counts worked_out state (asks requests.Front) moment = omega arith
 left_counts worked_out state (turned_away fault allow) moment = omega arith
 left_counts short state form moment = omega arith
 left_counts failed state form moment = omega arith

@@ -15,7 +15,7 @@ use Rattle.shop_core.specs.declared.answers.Request.TheVariants as requests
 use Rattle.shop_core.specs.Commits.{Commits}
 use Rattle.shop_core.specs.declared.answers.CommitFault.{CommitFault}
 use Rattle.shop_core.specs.History.{State, after_step}
-use Rattle.shop_core.specs.Requests.{answered, listing, reading, with_bare}
+use Rattle.shop_core.specs.Requests.{answered, cart_answer, listing, reading, with_bare}
 use Rattle.shop_core.specs.Shops.{ShopView, state_of}
 use Rattle.shop_core.specs.Steps.{accepted, refused}
 use Rattle.shop_server.specs.Answering.{Form, asks, turned_away, form_of, Gives, IsOf, Way, ServesBy, worked_out, short, failed, shown, written, reply_text, write_at}
@@ -82,6 +82,10 @@ row_shown old read moment last out e = record { may = tt; text = e; left = refl;
 pub rows_listed : (old : ShopView) (entity : List ℕ) (id second : ℕ) (moment : ℤ) (last : Bool) (out : List ℕ)
     → out ≡ reply_text (shown (answered replies.RowList (with_bare (listing old.rows entity id second)))) None last → ServesBy worked_out old (asks (requests.RowList entity id second)) moment last out old
 rows_listed old entity id second moment last out e = record { may = tt; text = e; left = refl; counts = refl; untouched = tt; told = refl }
+
+pub cart_shown : (old : ShopView) (cart : ℕ) (moment : ℤ) (last : Bool) (out : List ℕ)
+    → out ≡ reply_text (shown (cart_answer old.rows old.number cart moment)) None last → ServesBy worked_out old (asks (requests.Cart cart)) moment last out old
+cart_shown old cart moment last out e = record { may = tt; text = e; left = refl; counts = refl; untouched = tt; told = refl }
 
 -- ---- requests
 

@@ -12,7 +12,7 @@ use Rattle.shop_core.specs.declared.answers.Reply.{Reply}
 use Rattle.shop_core.specs.declared.answers.Reply.TheVariants as replies
 use Rattle.shop_core.specs.declared.answers.Request as shop
 use Rattle.shop_core.specs.declared.answers.Request.TheVariants as requests
-use Rattle.shop_core.specs.Requests.{answered, listing, reading, with_bare}
+use Rattle.shop_core.specs.Requests.{answered, cart_answer, listing, reading, with_bare}
 use Rattle.shop_core.specs.Steps.{Stepped, accepted, refused, unbuilt, step, IsAccepted}
 use Rattle.shop_core.specs.History.{State, after_step}
 use Rattle.shop_core.specs.Shops.{ShopView, state_of}
@@ -92,13 +92,13 @@ shown (Err broken) = replies.Refused (record { op = 0; broken = broken })
 abbrev pub write_at : State → Command → ℤ → Stepped
 write_at state command moment = step state.rows state.number command moment
 
--- the reply to a request by the rows: to one of those that aren't built yet, that it isn't
+-- the reply to a request by the rows, and to a cart by the moment too: to one of those that aren't built yet, that it isn't
 abbrev pub reply_to : State → shop.Request → ℤ → Reply
 reply_to state (requests.Write command) moment = written (state.number + 1) (write_at state command moment)
 reply_to state (requests.Row read) moment = shown (answered replies.Row (reading state.rows read))
 reply_to state (requests.RowList entity id second) moment = shown (answered replies.RowList (with_bare (listing state.rows entity id second)))
+reply_to state (requests.Cart cart) moment = shown (cart_answer state.rows state.number cart moment)
 reply_to state (requests.Indexed query min_front) moment = replies.Line lines.NotBuilt
-reply_to state (requests.Cart cart) moment = replies.Line lines.NotBuilt
 reply_to state requests.Front moment = replies.Line lines.NotBuilt
 
 abbrev pub reply : State → Form → ℤ → Reply

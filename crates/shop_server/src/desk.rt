@@ -3,7 +3,7 @@ ghost use Rattle.std.specs.Prelude.{◌≡◌, ◌++◌, ℕ, ℤ, List, IfOk, O
 ghost use Rattle.shop_outside.specs.Clocks.{IsMoment};
 ghost use Rattle.shop_core.specs.declared.answers.Reply.TheVariants as replies;
 ghost use Rattle.shop_core.specs.declared.answers.Request.TheVariants as requests;
-ghost use Rattle.shop_core.specs.Requests.{IsBuiltRequest, answered, listing, reading, with_bare};
+ghost use Rattle.shop_core.specs.Requests.{IsBuiltRequest, answered, cart_answer, listing, reading, with_bare};
 ghost use Rattle.shop_core.specs.Shops.{IsShop};
 ghost use Rattle.shop_core.specs.Steps.{IsBuilt};
 ghost use Rattle.shop_json.specs.Asking as json;
@@ -14,11 +14,13 @@ ghost use Rattle.shop_server.specs.Cutting.{IsServed};
 
 use crate::answerer::Answerer;
 use crate::turned::TurnedAway;
+use cart_loop::CartRefused;
 use shop_core::{AskFault, CommitFault, Reply, Request, ShopState};
 use shop_defs::{Broken, NoMemory, Refused};
 use shop_http::{Head, Method2, put_response};
 use shop_json::{
-    put_done, put_store_failed, read_body, reply_text, reserve_done, seen_list_text, seen_row_text,
+    cart_text, put_done, put_store_failed, read_body, reply_text, reserve_done, seen_list_text,
+    seen_row_text,
 };
 use shop_outside::{Keeper, Moment};
 use shop_requests::{Command, LineFault, RowRead};
@@ -198,6 +200,31 @@ fn list<P: Keeper + Drop>(
     }
 }
 
+/// Shows what a cart is settled at.
+fn price<P: Keeper + Drop>(
+    alloc: Global,
+    shop: &ShopState<P>,
+    room: &mut Vec<u8>,
+    cart: u128,
+    moment: Moment,
+    last: bool,
+    out: &mut Vec<u8>,
+) -> Result<(), NoMemory>
+    requires moment { IsMoment moment }
+    ensures ok { OnOk result (out.new.items ≡ out.old.items ++ reply_text (shown (cart_answer shop.now.rows shop.now.number cart moment)) None last) }
+    ensures err { OnErr result (out.new.items ≡ out.old.items) }
+{
+    match shop.read_cart(alloc, cart, moment) {
+        Ok((front, settled)) => {
+            cart_text(alloc, room, front, &settled)?;
+            put_response(out, 200, room.as_slice(), None, last)
+        }
+        Err(CartRefused::NoSuchCart) => refuse(alloc, Broken::NoSuchCart { id: cart }, last, out),
+        Err(CartRefused::Unstable) => refuse(alloc, Broken::Unstable { id: cart }, last, out),
+        Err(CartRefused::NoMemory) => Err(NoMemory),
+    }
+}
+
 /// Answers what is asked of a shop.
 fn answer_request<P: Keeper + Drop>(
     alloc: Global,
@@ -220,6 +247,7 @@ fn answer_request<P: Keeper + Drop>(
         Request::RowList { entity, id, second } => {
             list(alloc, shop, room, entity.as_bytes(), id, second, last, out)
         }
+        Request::Cart { cart } => price(alloc, shop, room, cart, moment, last, out),
         _ => unreachable!(),
     }
 }

@@ -1,6 +1,5 @@
-use Rattle.std.proofs.Common.{List, [], ◌∷◌, map, ap, sym, ◌∙◌, subst, arith}
+use Rattle.std.proofs.Common.{[], ◌∷◌, map, sym, subst, arith}
 use Rattle.std.proofs.lemmas.List.{length-map, map-append}
-use Rattle.shop_defs.specs.declared.row.Row.{Row}
 use Rattle.shop_core.specs.Seeing.{is_of}
 use Rattle.shop_core.proofs.Listed.{AreListed, are_all_full, are_all_before, are_all_ended, one_more}
 use Rattle.shop_core.proofs.read.first_live.Goals as goal

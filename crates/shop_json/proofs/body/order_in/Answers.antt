@@ -1,4 +1,4 @@
-use Rattle.std.proofs.Common.{sym, subst, ap, Err}
+use Rattle.std.proofs.Common.{sym, subst, ap}
 use Rattle.shop_requests.specs.declared.command.Command.TheVariants as commands
 use Rattle.shop_requests.specs.declared.route.Route.TheVariants as routes
 use Rattle.body_json.specs.Objects.{order}

@@ -1,4 +1,4 @@
-use Rattle.std.proofs.Common.{ℤ, sym, subst, ap, ◌∙◌, Result, Ok, Err, w64}
+use Rattle.std.proofs.Common.{ℤ, sym, subst, ap, ◌∙◌, Result, Ok, w64}
 use Rattle.std.proofs.lemmas.Int.{to_z-of_z}
 use Rattle.shop_requests.specs.declared.line_fault.LineFault.{LineFault}
 use Rattle.shop_core.specs.declared.answers.Request.{Request}
