@@ -1,0 +1,14 @@
+pub mod Found
+pub mod Cut
+pub mod Own
+pub mod Commits
+pub mod Kept
+pub mod Dropped
+pub mod Changes
+pub mod Merges
+pub mod Rounds
+pub mod Joins
+pub mod Assembled
+pub mod Steps
+pub mod Leaves
+pub mod Ends

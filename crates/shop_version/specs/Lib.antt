@@ -1,0 +1,4 @@
+pub mod Plans
+pub mod Replaying
+pub mod Taking
+pub mod Laws

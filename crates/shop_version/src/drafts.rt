@@ -1,0 +1,160 @@
+//! The rows that keep a draft, found by look-ups.
+ghost use Rattle.std.specs.Prelude.{◌≡◌, ◌≢◌, ℕ, ◌<◌, ◌^◌, ◌++◌, pos, Some, IfOk, OnOk, map, filter, true};
+ghost use Rattle.std.specs.Option.{option_copied};
+ghost use Rattle.shop_defs.specs.Rows.{row_at, row_key, field_of};
+ghost use Rattle.shop_operations.specs.References.{of_version};
+ghost use Rattle.shop_drafts.specs.Damage.{is_number};
+ghost use Rattle.shop_drafts.specs.Drafts as spec;
+ghost use Rattle.shop_drafts.specs.Making.{is_of_draft};
+ghost use Rattle.shop_drafts.specs.Soundness.{AreDrafted};
+ghost use Rattle.shop_version.specs.Taking.{parts, of_member, numbers, commit_keys};
+
+use shop_defs::{Entity, Key, NoMemory, Row, Value, entity_named};
+use shop_drafts::{COMMITS, MEMBERS, Member, ROOT, ROOT_ENTITY, Root};
+use shop_rows::Rows;
+use std::alloc::Global;
+
+/// The key of the draft of that version.
+pub fn draft_key(version: u128) -> Key
+    ensures { result ≡ spec.draft_key version }
+{
+    Key {
+        entity: Entity::Draft,
+        version: 0,
+        id: version,
+        second: 0,
+    }
+}
+
+/// The key of its commit with that number, counted from 1.
+pub fn commit_key(version: u128, number: u32) -> Key
+    ensures { result ≡ spec.commit_key version number }
+{
+    Key {
+        entity: Entity::DraftCommit,
+        version: 0,
+        id: version,
+        second: number as u128,
+    }
+}
+
+/// The row of the version's draft: `None` where there is none. It takes no memory.
+pub fn draft_of<'a>(rows: &'a Rows, version: u128) -> Option<&'a Row>
+    ensures { option_copied result ≡ row_at rows.entry.now.list (spec.draft_key version) }
+{
+    rows.get(&draft_key(version))
+}
+
+/// The row that a draft is made of, as the draft's row names it: `None` where it names none.
+pub fn root_of(draft: &Row) -> Option<Root>
+    ensures { result ≡ spec.root_of draft.now }
+{
+    match (root_entity(draft), root_id(draft)) {
+        (Some(entity), Some(id)) => Some(Root { entity, id }),
+        _ => None,
+    }
+}
+
+fn root_entity(draft: &Row) -> Option<Entity>
+    ensures { result ≡ spec.named_entity (spec.root_name draft.now) }
+{
+    match draft.field(ROOT_ENTITY) {
+        Some(Value::Text(name)) => entity_named(name.as_bytes()),
+        _ => None,
+    }
+}
+
+fn root_id(draft: &Row) -> Option<u128>
+    ensures { result ≡ spec.root_ident draft.now }
+{
+    match draft.field(ROOT) {
+        Some(Value::Ident(id)) => Some(*id),
+        _ => None,
+    }
+}
+
+/// How many commits a draft has, as its row says: 0 where it says nothing of the kind.
+pub fn commit_count(draft: &Row) -> u32
+    ensures { (number : ℕ) → number < 2 ^ 32 → is_number (field_of draft.now COMMITS) number ≡ true → result ≡ number }
+{
+    count_in(draft.field(COMMITS))
+}
+
+fn count_in(value: Option<&Value>) -> u32
+    ensures { (number : ℕ) → number < 2 ^ 32 → is_number (option_copied value.entry) number ≡ true → result ≡ number }
+{
+    match value {
+        Some(Value::Int(count)) => small(*count),
+        _ => 0,
+    }
+}
+
+/// The number, where it is none below 0 and fits.
+fn small(count: i64) -> u32
+    ensures { (number : ℕ) → number < 2 ^ 32 → count ≡ pos number → result ≡ number }
+{
+    if count < 0 {
+        return 0;
+    }
+    if count >= 4_294_967_296 {
+        return 0;
+    }
+    count as u32
+}
+
+/// The keys, ascending, of the rows of the version, which has a draft or none. It costs in proportion
+/// to the draft. Want of memory is the only error, here and below.
+pub fn own_keys(alloc: Global, rows: &Rows, version: u128) -> Result<Vec<Key>, NoMemory>
+    requires drafted { AreDrafted rows.now.list }
+    requires not_live { version ≢ 0 }
+    ensures { IfOk result (λ keys. keys.items ≡ map row_key (of_version version rows.now.list)) }
+{
+    let keys = keys_by(alloc, rows, version, &MEMBERS)?;
+    Ok(keys)
+}
+
+/// The keys of the rows of the version, member by member.
+fn keys_by(
+    alloc: Global,
+    rows: &Rows,
+    version: u128,
+    members: &[Member],
+) -> Result<Vec<Key>, NoMemory>
+    ensures { IfOk result (λ keys. keys.items ≡ map row_key (parts of_member members.now (of_version version rows.now.list))) }
+{
+    let mut keys = Vec::new(alloc);
+    for member in members {
+        let found = rows.keys_of(alloc, member.entity, version)?;
+        keys.extend_from_slice(found.as_slice())?;
+    }
+    Ok(keys)
+}
+
+/// The keys, ascending, of all rows of the draft, of which this is the row: those of its version, its
+/// own and its commits.
+pub(crate) fn all_keys(
+    alloc: Global,
+    rows: &Rows,
+    version: u128,
+    draft: &Row,
+) -> Result<Vec<Key>, NoMemory>
+    requires drafted { AreDrafted rows.now.list }
+    requires not_live { version ≢ 0 }
+    requires draft { row_at rows.now.list (spec.draft_key version) ≡ Some draft.now }
+    ensures { IfOk result (λ keys. keys.items ≡ map row_key (filter (is_of_draft version) rows.now.list)) }
+{
+    let mut keys = own_keys(alloc, rows, version)?;
+    keys.push(draft_key(version))?;
+    push_commits(&mut keys, version, commit_count(draft))?;
+    Ok(keys)
+}
+
+/// Pushes the keys of so many commits.
+fn push_commits(keys: &mut Vec<Key>, version: u128, count: u32) -> Result<(), NoMemory>
+    ensures { OnOk result (keys.new.items ≡ keys.old.items ++ commit_keys version (numbers 1 count)) }
+{
+    for number in 0..count {
+        keys.push(commit_key(version, number + 1))?;
+    }
+    Ok(())
+}

@@ -1,0 +1,26 @@
+//! Drafts over the rows of a shop: what dropping and merging them changes.
+//!
+//! # What is promised
+//!
+//! - `draft_of`, `root_of`, `commit_count` and `own_keys` find what keeps a draft: its row, what it is
+//!   made of, how many commits it has, the keys of the rows of its version. They ask for rows that can
+//!   be worked on (`AreDrafted` of `shop_drafts`) where they say so.
+//! - `plan_drop` answers the changes of a drop, or that there is no such draft, both ways (`Plans`,
+//!   over `drop_draft`). They leave all rows that aren't of the draft, and what live and all other
+//!   drafts show (`LeavesDrop`).
+//! - `plan_merge` answers the changes of a merge with the number of operations that are replayed, or
+//!   why there are none: there is no such draft, or the first operation that is refused, with its
+//!   commit, its number and the rule (`PlansMerge`, over `merge`). They make of the live rows what the
+//!   logged operations leave, done one after the other, and leave the rows of all other drafts, and
+//!   all rows that operations may not write but those that kept the draft (`LeavesMerge`).
+//! - Both cost in proportion to the draft, its operations and what these change: that is how they are
+//!   written, and no clause speaks of it.
+#![tactic(auto)]
+
+mod drafts;
+mod dropping;
+mod merging;
+
+pub use drafts::{commit_count, commit_key, draft_key, draft_of, own_keys, root_of};
+pub use dropping::plan_drop;
+pub use merging::plan_merge;
