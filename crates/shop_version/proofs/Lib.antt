@@ -12,3 +12,13 @@ pub mod Assembled
 pub mod Steps
 pub mod Leaves
 pub mod Ends
+pub mod OwnRows
+pub mod JoinedPlaces
+pub mod Layers
+pub mod Shown
+pub mod OwnChanges
+pub mod Untouched
+pub mod OwnPart
+pub mod Outsides
+pub mod Committed
+pub mod DraftBatches

@@ -2,3 +2,6 @@ pub mod Plans
 pub mod Replaying
 pub mod Taking
 pub mod Laws
+pub mod Overlays
+pub mod DraftSteps
+pub mod DraftWrites
