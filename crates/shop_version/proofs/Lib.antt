@@ -21,4 +21,6 @@ pub mod Untouched
 pub mod OwnPart
 pub mod Outsides
 pub mod Committed
+pub mod CommitRows
 pub mod DraftBatches
+pub mod DraftAnswers

@@ -1,5 +1,5 @@
-//! Drafts over the rows of a shop: how what they show is found by look-ups, what one operation in a
-//! draft changes, and what dropping and merging a draft change.
+//! Drafts over the rows of a shop: how what they show is found by look-ups, and what a batch in a
+//! draft, dropping and merging it change.
 //!
 //! # What is promised
 //!
@@ -18,16 +18,15 @@
 //!   commit, its number and the rule (`PlansMerge`, over `merge`). They make of the live rows what the
 //!   logged operations leave, done one after the other, and leave the rows of all other drafts, and
 //!   all rows that operations may not write but those that kept the draft (`LeavesMerge`).
-//! - Both cost in proportion to the draft, its operations and what these change: that is how they are
+//! - `plan_draft_write` does a batch in a draft, all or none. Its changes make the rows those of
+//!   `draft_write`, or it answers the first refusal (`PlansWrite`), both ways. In words: all rows that
+//!   aren't of the draft stay, and so does what live and each other draft show (`WriteLeavesOthers`);
+//!   the draft's rows are those that the same operations leave of what it shows (`WriteIsBatch`).
+//! - They cost in proportion to the draft, its operations and what these change: that is how they are
 //!   written, and no clause speaks of it.
-//!
-//! What no public call makes yet: the overlay answers each look-up of an operation's view exactly as
-//! the rows that the draft shows do, found by look-ups of live and of the draft's own rows. An
-//! operation in a draft, as a request gives it, leaves what `done_in` of `shop_drafts` says, by changes
-//! of the draft's own rows alone, or is refused by the first rule that it breaks, with its number
-//! (`IsDone`, `IsStepFault`).
 #![tactic(auto)]
 
+mod batches;
 mod drafts;
 mod dropping;
 mod joining;
@@ -37,6 +36,7 @@ mod showing;
 mod touching;
 mod writing;
 
+pub use batches::plan_draft_write;
 pub use drafts::{commit_count, commit_key, draft_key, draft_of, own_keys, root_of};
 pub use dropping::plan_drop;
 pub use merging::plan_merge;
