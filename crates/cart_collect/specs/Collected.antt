@@ -1,5 +1,5 @@
 -- The rows that a cart's prices are made of: which rows of a shop they are.
-use Rattle.std.specs.Prelude.{◌≡◌, ℕ, Bool, true, false, List, [], ◌∷◌, map, Option, Some, None, option_and_then, unwrap_or}
+use Rattle.std.specs.Prelude.{◌≡◌, ℕ, Bool, true, false, List, [], ◌∷◌, map, Option, Some, None, IsSome, option_and_then, unwrap_or}
 use Rattle.std.specs.Option.{option_map, option_map_or}
 use Rattle.shop_defs.specs.declared.entity.Entity.TheVariants as E
 use Rattle.shop_defs.specs.declared.row.Row.{Row}
@@ -108,7 +108,7 @@ cart_data rows cart = with_method rows cart (live_at rows E.ShippingMethod (id_a
 abbrev pub collected : List Row → ℕ → Option CartRows
 collected rows cart = option_map (cart_data rows) (live_at rows E.Cart (Some cart))
 
--- why there is none: there is no such cart, or memory ran out
+-- why there is none: there is no such cart, or there is one and memory ran out
 abbrev pub IsMissing : List Row → ℕ → CollectFault → Type 0
 IsMissing rows cart F.NoSuchCart = collected rows cart ≡ None
-IsMissing rows cart F.NoMemory = Unit {0}
+IsMissing rows cart F.NoMemory = IsSome (collected rows cart)

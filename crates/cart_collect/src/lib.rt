@@ -12,9 +12,9 @@
 //! - `live_rows` gives the live rows of an entity, in the order of their keys.
 //!
 //! Every row is lent and none is copied. While what is lent is in use the rows can't be changed. Want of
-//! memory is the only error beside a missing cart. No look-up walks over all rows: what it costs grows
-//! with what is lent, and with the rows that refer to the cart, its products, its promotions and its
-//! method.
+//! memory is the only error beside a missing cart. That no look-up walks over all rows, so that what it
+//! costs grows with what is lent and with the rows that refer to the cart, its products, its promotions
+//! and its method, is how it is written; no clause speaks of it.
 #![tactic(auto)]
 
 mod collecting;

@@ -14,7 +14,7 @@ use Rattle.cart_loop.specs.declared.fault.CartRefused.TheVariants as F
 use Rattle.cart_loop.specs.Labels.{labels}
 use Rattle.cart_loop.specs.Sameness.{same_state}
 use Rattle.cart_loop.specs.Settling.{state, IsSettledAt, IsUnstable, Settles}
-use Rattle.cart_loop.specs.Settled.{round_in, IsRefused, IsSettled}
+use Rattle.cart_loop.specs.Settled.{round_in, IsRefused, IsSettled, NeverSettles}
 use Rattle.cart_loop.specs.Answer.{first_repeated, answer_at, answer_by, answer_of, settling, IsBroken, SettlingIsTheAnswer}
 use Rattle.cart_loop.proofs.Samenesses.{state_told}
 use Rattle.cart_loop.proofs.Answered.{is_settled}
@@ -63,6 +63,21 @@ module _ (round : List ℕ → State) where
   settled_found turns s =
       let at : 0 + turns ≡ turns = omega arith in
       subst (λ (t : ℕ). first_repeated round 6 0 ≡ Some t) at (found 6 0 turns s.early (λ j less. s.before j (omega (arith, less))) (subst Repeats (sym at) s.same))
+
+  -- where none is found, none of them is repeated
+  none_repeats : (n k : ℕ) → ((j : ℕ) → j < k → Repeats j → ⊥) → first_repeated round n k ≡ None → (j : ℕ) → j < k + n → Repeats j → ⊥
+  none_repeats zero k before e = λ j less same. before j (omega (arith, less)) same
+  none_repeats (suc n) k before e = by (none_repeats n (k + 1)) (same_state (state round (k + 1)) (state round k)) refl
+    where
+      by : (((j : ℕ) → j < k + 1 → Repeats j → ⊥) → first_repeated round n (k + 1) ≡ None → (j : ℕ) → j < k + 1 + n → Repeats j → ⊥)
+          → (b : Bool) → same_state (state round (k + 1)) (state round k) ≡ b → (j : ℕ) → j < k + suc n → Repeats j → ⊥
+      by more true f j less same = let never : Some k ≡ None = sym (here n k ((told k).0 f)) ∙ e in absurd (cc)
+      by more false f j less same =
+          let other : Repeats k → ⊥ = λ r. let never : false ≡ true = sym f ∙ (told k).1 r in absurd (cc) in
+          more (below_more (λ (j : ℕ). Repeats j → ⊥) k before other) (sym (not_here n k other) ∙ e) j (omega (arith, less)) same
+
+  pub none_is_unstable : first_repeated round 6 0 ≡ None → IsUnstable round
+  none_is_unstable e = none_repeats 6 0 (λ j less. absurd (omega (arith, less))) e
 
   pub unstable_found : IsUnstable round → first_repeated round 6 0 ≡ None
   unstable_found u = none_found 6 0 u
@@ -143,5 +158,39 @@ module _ (rows : List Row) (id : ℕ) (moment : ℤ) where
           absurd (cc)
       by (Some lent) of = by_lent lent of (first_repeated (round_in rows lent moment) 6 0) refl
 
+  -- with the rows of the cart it is settled or unstable
+  lent_is : (lent : CartRows) → collected rows id ≡ Some lent → settling rows id moment ≡ Err (B.NoSuchCart id) → ⊥
+  lent_is lent of e = by (first_repeated (round_in rows lent moment) 6 0) refl
+    where
+      by : (turns : Option ℕ) → first_repeated (round_in rows lent moment) 6 0 ≡ turns → ⊥
+      by None f =
+          let never : as_broken (B.Unstable id) ≡ as_broken (B.NoSuchCart id) = sym (of_lent lent of ∙ ap (answer_by id lent (round_in rows lent moment)) f) ∙ e in
+          absurd (cc)
+      by (Some turns) f =
+          let never : as_answer (answer_at lent (state (round_in rows lent moment) turns) turns) ≡ as_broken (B.NoSuchCart id) = sym (of_lent lent of ∙ ap (answer_by id lent (round_in rows lent moment)) f) ∙ e in
+          absurd (cc)
+
+  missing_is : settling rows id moment ≡ Err (B.NoSuchCart id) → IsRefused rows id moment F.NoSuchCart
+  missing_is e = by (collected rows id) refl
+    where
+      by : (lent : Option CartRows) → collected rows id ≡ lent → collected rows id ≡ None
+      by None of = of
+      by (Some lent) of = absurd (lent_is lent of e)
+
+  unstable_is : settling rows id moment ≡ Err (B.Unstable id) → IsRefused rows id moment F.Unstable
+  unstable_is e = by (collected rows id) refl
+    where
+      by_lent : (lent : CartRows) → collected rows id ≡ Some lent → (turns : Option ℕ) → first_repeated (round_in rows lent moment) 6 0 ≡ turns → NeverSettles rows id moment
+      by_lent lent of None f = record { lent = lent; of = of; unstable = none_is_unstable (round_in rows lent moment) f }
+      by_lent lent of (Some turns) f =
+          let never : as_answer (answer_at lent (state (round_in rows lent moment) turns) turns) ≡ as_broken (B.Unstable id) = sym (of_lent lent of ∙ ap (answer_by id lent (round_in rows lent moment)) f) ∙ e in
+          absurd (cc)
+
+      by : (lent : Option CartRows) → collected rows id ≡ lent → NeverSettles rows id moment
+      by None of =
+          let never : as_broken (B.NoSuchCart id) ≡ as_broken (B.Unstable id) = sym (is_answer ∙ ap (answer_of rows id moment) of) ∙ e in
+          absurd (cc)
+      by (Some lent) of = by_lent lent of (first_repeated (round_in rows lent moment) 6 0) refl
+
 pub the_answer : SettlingIsTheAnswer
-the_answer = record { settled = settled_is; refused = refused_is; answered = answer_is }
+the_answer = record { settled = settled_is; refused = refused_is; answered = answer_is; missing = missing_is; unstable = unstable_is }

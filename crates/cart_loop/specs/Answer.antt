@@ -47,3 +47,5 @@ pub record SettlingIsTheAnswer : Type 0 where
   pub settled : (rows : List Row) (id : ℕ) (moment : ℤ) (settled : Settled) → IsSettled rows id moment settled → settling rows id moment ≡ Ok settled
   pub refused : (rows : List Row) (id : ℕ) (moment : ℤ) (fault : CartRefused) → IsRefused rows id moment fault → IsBroken id fault (settling rows id moment)
   pub answered : (rows : List Row) (id : ℕ) (moment : ℤ) (settled : Settled) → settling rows id moment ≡ Ok settled → IsSettled rows id moment settled
+  pub missing : (rows : List Row) (id : ℕ) (moment : ℤ) → settling rows id moment ≡ Err (B.NoSuchCart id) → IsRefused rows id moment F.NoSuchCart
+  pub unstable : (rows : List Row) (id : ℕ) (moment : ℤ) → settling rows id moment ≡ Err (B.Unstable id) → IsRefused rows id moment F.Unstable

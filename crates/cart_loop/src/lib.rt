@@ -12,9 +12,10 @@
 //!   where there is no such cart (`IsRefused`). Want of memory is its only other error.
 //! - What a cart is settled at, or why it isn't, is one value of the rows and the moment
 //!   (`law_of_the_answer`).
-//! - The rows of the cart and all rules are collected once, and every round goes over them.
 //! - It asks that each row is as its entity has it, and that no cart has more than 100 lines
 //!   (`AreCartRows`), as in all rows that were checked.
+//! - That the rows of the cart and all rules are collected once, and every round goes over them, is how
+//!   it is written; no clause speaks of it.
 #![tactic(auto)]
 
 mod cart;

@@ -66,6 +66,14 @@ fn edit_chunk<K: Ord + Copy + Drop, V: Drop, C: Leaf<V>>(
     edit_page(page, key, leaf)
 }
 
+/// Room is taken for so many entries at a time, so that blocks of few sizes are asked for.
+const ROOM: usize = 16;
+
+/// For how many entries a copy of so many has room: for one more at least.
+fn room_for(count: usize) -> usize {
+    (count / ROOM).saturating_add(1).saturating_mul(ROOM)
+}
+
 /// Copies a part that is shared, where there is memory, so that it can be changed in place.
 fn unshare<K: Copy + Drop, V, C: Leaf<V>>(alloc: Global, part: &mut Arc<Sheet<K, V, C>, Global>)
     ensures { arc_value part.new ≡ arc_value part.old }
@@ -74,6 +82,9 @@ fn unshare<K: Copy + Drop, V, C: Leaf<V>>(alloc: Global, part: &mut Arc<Sheet<K,
         return;
     }
     let mut copy = Sheet::new(alloc);
+    let Ok(()) = copy.reserve(room_for(part.len())) else {
+        return;
+    };
     let Ok(()) = copy.share_all(part.entries()) else {
         return;
     };

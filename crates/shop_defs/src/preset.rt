@@ -1,6 +1,7 @@
 //! What a field holds where it would be null.
-ghost use Rattle.std.specs.Prelude.{◌≡◌, slice_get, IfOk};
+ghost use Rattle.std.specs.Prelude.{◌≡◌, slice_get, IfOk, OnErr};
 ghost use Rattle.std.specs.Option.{option_map};
+ghost use Rattle.shop_defs.specs.declared.table.Preset.TheVariants as P;
 ghost use Rattle.shop_defs.specs.declared.value.Value.TheVariants as V;
 ghost use Rattle.shop_defs.specs.Texts.{choice_texts};
 ghost use Rattle.shop_defs.specs.Presets as spec;
@@ -31,7 +32,8 @@ fn is_there(preset: Preset) -> bool
 /// What the field holds where it would be null: `None` where it has no preset. Want of memory is the
 /// only error, and may come only of a field that holds one of some words.
 pub fn preset_value(alloc: Global, field: &FieldInfo) -> Result<Option<Value>, NoMemory>
-    ensures { IfOk result (λ value. value ≡ spec.preset_of field.now) }
+    ensures value { IfOk result (λ value. value ≡ spec.preset_of field.now) }
+    ensures wanted { OnErr result (field.now.preset ≡ P.FirstWord) }
 {
     match (field.kind, field.preset) {
         (_, Preset::Absent) => Ok(None),

@@ -1,5 +1,5 @@
 //! The rules on a written row that need no other row, and what its operation gives.
-ghost use Rattle.std.specs.Prelude.{◌≡◌, ◌&&◌, IfOk, not, is_none, option_and_then, unwrap_or};
+ghost use Rattle.std.specs.Prelude.{◌≡◌, ◌&&◌, IfOk, OnErr, IsSome, not, is_none, option_and_then, unwrap_or};
 ghost use Rattle.std.specs.Option.{option_copied};
 ghost use Rattle.std.specs.Ordering.{nat_cmp, is_lt};
 ghost use Rattle.std.specs.Cmp.Lexicographic.{slice_cmp};
@@ -24,7 +24,8 @@ pub fn fixed_field(
     before: Option<&Row>,
     row: &Row,
 ) -> Result<Option<Broken>, NoMemory>
-    ensures { IfOk result (λ broken. broken ≡ spec.fixed_field (option_copied before.entry) row.now) }
+    ensures broken { IfOk result (λ broken. broken ≡ spec.fixed_field (option_copied before.entry) row.now) }
+    ensures wanted { OnErr result (IsSome (spec.fixed_field (option_copied before.entry) row.now)) }
 {
     match first_fixed(before, row) {
         Some(field) => Ok(Some(Broken::FixedField {
@@ -37,7 +38,8 @@ pub fn fixed_field(
 /// The refusal of a required field that is null in the row: the field with the least name. Want of
 /// memory is the only error, and comes only of a refusal.
 pub fn missing_required(alloc: Global, row: &Row) -> Result<Option<Broken>, NoMemory>
-    ensures { IfOk result (λ broken. broken ≡ spec.missing_required row.now) }
+    ensures broken { IfOk result (λ broken. broken ≡ spec.missing_required row.now) }
+    ensures wanted { OnErr result (IsSome (spec.missing_required row.now)) }
 {
     match first_missing(row) {
         Some(field) => Ok(Some(Broken::MissingRequired {

@@ -170,9 +170,16 @@ fn shared_change(alloc: Global, change: &(Key, Option<List<u8>>)) -> Result<Chan
     ensures { IfOk result (λ shared. read_body shared ≡ change.now) }
 {
     match change {
-        (key, Some(body)) => Ok((*key, Some(Arc::new(alloc, body.copy(alloc)?)?))),
+        (key, Some(body)) => Ok((*key, Some(Arc::new(alloc, copied_body(alloc, body)?)?))),
         (key, None) => Ok((*key, None)),
     }
+}
+
+/// A copy of the bytes, at once and not one by one.
+fn copied_body(alloc: Global, body: &List<u8>) -> Result<List<u8>, NoMemory>
+    ensures { IfOk result (λ copy. copy ≡ body.now) }
+{
+    Ok(List::from_vec(Vec::from_slice(alloc, body.as_slice())?))
 }
 
 fn copied_list(alloc: Global, rows: &[(Key, List<u8>)]) -> Result<List<(Key, List<u8>)>, NoMemory>

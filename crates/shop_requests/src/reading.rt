@@ -1,5 +1,5 @@
 //! Operations, read by the tables of entities and fields.
-ghost use Rattle.std.specs.Prelude.{◌≡◌, ◌≢◌, Some, None, IsTrue, OnOk, IfOk, IfErr, Ok};
+ghost use Rattle.std.specs.Prelude.{◌≡◌, ◌≢◌, Some, None, IsTrue, IsSome, IsErrOf, OnOk, IfOk, IfErr, Ok};
 ghost use Rattle.std.specs.List.{list_all};
 ghost use Rattle.std.specs.Option.{option_copied, option_map};
 ghost use Rattle.std.specs.Ordering.{nat_cmp, is_lt};
@@ -45,6 +45,8 @@ pub fn read_op(alloc: Global, op: &RawOp) -> Result<Op, PlanFault>
     // lesser name does.
     ensures first { IfErr result (Places.NamesFirst op.now) }
     ensures kept { OnOk result (Places.KeepsRules op.now) }
+    // A name that operations may not write is answered without memory.
+    ensures wanted { IsErrOf result PlanFault.NoMemory → IsSome (spec.if_writable (Tables.info_named op.now.entity)) }
 {
     let Some(info) = writable_named(op.entity.as_bytes()) else {
         return Err(refused(Broken::UnknownEntity));

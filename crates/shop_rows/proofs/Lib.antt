@@ -18,3 +18,4 @@ pub mod Referring
 pub mod CountedRows
 pub mod Moving
 pub mod LookedUp
+mod Wanted

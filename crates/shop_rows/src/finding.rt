@@ -1,5 +1,5 @@
 //! Rows that are found by topic.
-ghost use Rattle.std.specs.Prelude.{◌≡◌, ◌<◌, ◌^◌, map, filter, find, count_by, length, IfOk};
+ghost use Rattle.std.specs.Prelude.{◌≡◌, ◌<◌, ◌^◌, map, filter, find, count_by, length, IfOk, OnErr};
 ghost use Rattle.std.specs.Option.{option_copied};
 ghost use Rattle.paged.specs.Pairs.{key_of};
 ghost use Rattle.shop_defs.specs.Rows.{row_at};
@@ -20,7 +20,8 @@ use std::alloc::{AllocError, Global};
 
 /// The ids of the rows that the mentions are of.
 pub(crate) fn ids_of(alloc: Global, found: MentionsAt<'_, TopicOf>) -> Result<Vec<u128>, AllocError>
-    ensures { IfOk result (λ ids. ids.items ≡ map (λ pair. pair.0.key.id) found.entry) }
+    ensures ids { IfOk result (λ ids. ids.items ≡ map (λ pair. pair.0.key.id) found.entry) }
+    ensures wanted { OnErr result (0 < length (map (λ pair. pair.0.key.id) found.entry)) }
 {
     let mut ids = Vec::new(alloc);
     let mut found = found;
@@ -35,7 +36,8 @@ pub(crate) fn keys_of<P: Place<Mention>>(
     alloc: Global,
     found: MentionsAt<'_, P>,
 ) -> Result<Vec<Key>, AllocError>
-    ensures { IfOk result (λ keys. keys.items ≡ map (λ pair. pair.0.key) found.entry) }
+    ensures keys { IfOk result (λ keys. keys.items ≡ map (λ pair. pair.0.key) found.entry) }
+    ensures wanted { OnErr result (0 < length (map (λ pair. pair.0.key) found.entry)) }
 {
     let mut keys = Vec::new(alloc);
     let mut found = found;
@@ -66,7 +68,8 @@ pub(crate) fn keys_of_rows(
     alloc: Global,
     found: RowsAt<'_, EntityOf>,
 ) -> Result<Vec<Key>, AllocError>
-    ensures { IfOk result (λ keys. keys.items ≡ map (λ pair. pair.1.key) found.entry) }
+    ensures keys { IfOk result (λ keys. keys.items ≡ map (λ pair. pair.1.key) found.entry) }
+    ensures wanted { OnErr result (0 < length (map (λ pair. pair.1.key) found.entry)) }
 {
     let mut keys = Vec::new(alloc);
     let mut found = found;
@@ -105,7 +108,8 @@ pub(crate) fn keys_of_twins(
     row: &Row,
 ) -> Result<Vec<Key>, AllocError>
     requires { AreFound pages.now.rows pages.now.mentions pages.now.counts }
-    ensures { IfOk result (λ keys. keys.items ≡ map (λ pair. pair.0.key) (filter (λ pair. spec.passes (spec.is_version_twin version row.now) (row_at (rows_in pages.now.rows) pair.0.key)) found.entry)) }
+    ensures keys { IfOk result (λ keys. keys.items ≡ map (λ pair. pair.0.key) (filter (λ pair. spec.passes (spec.is_version_twin version row.now) (row_at (rows_in pages.now.rows) pair.0.key)) found.entry)) }
+    ensures wanted { OnErr result (0 < length (map (λ pair. pair.0.key) (filter (λ pair. spec.passes (spec.is_version_twin version row.now) (row_at (rows_in pages.now.rows) pair.0.key)) found.entry))) }
 {
     let mut keys = Vec::new(alloc);
     let mut found = found;

@@ -1,8 +1,9 @@
 //! What is looked up in rows, beside the row at a key. No look-up walks over all rows.
-ghost use Rattle.std.specs.Prelude.{◌≡◌, IfOk, filter};
+ghost use Rattle.std.specs.Prelude.{◌≡◌, ◌<◌, IfOk, OnErr, filter, length};
 ghost use Rattle.std.specs.Option.{option_copied};
 ghost use Rattle.std.specs.Ordering.{is_gt};
 ghost use Rattle.shop_defs.specs.Entities.{entity_number};
+ghost use Rattle.shop_defs.specs.Keys.{key_cmp};
 ghost use Rattle.shop_defs.specs.Rows.{row_key};
 ghost use Rattle.shop_defs.specs.declared.table.TheConstants.{REFERENCES};
 ghost use Rattle.shop_operations.specs.Parents.{children};
@@ -10,7 +11,6 @@ ghost use Rattle.shop_operations.specs.References.{referrers, live, of_version};
 ghost use Rattle.shop_rows.specs.Lookups as spec;
 ghost use Rattle.shop_rows.specs.Owners.{count_owned};
 ghost use Rattle.shop_rows.specs.Paging.{rows_in, AreFound};
-ghost use Rattle.shop_rows.specs.Searches.{from_key};
 
 use crate::finding::{
     count_of, count_of_rows, count_owned_in, count_owned_of, first_twin, ids_of, keys_of,
@@ -35,7 +35,8 @@ impl Rows {
         version: u128,
         parent: u128,
     ) -> Result<List<u128>, NoMemory>
-        ensures { IfOk result (λ ids. ids ≡ children REFERENCES (of_version version self.now.list) entity parent) }
+        ensures ids { IfOk result (λ ids. ids ≡ children REFERENCES (of_version version self.now.list) entity parent) }
+        ensures wanted { OnErr result (0 < length (children REFERENCES (of_version version self.now.list) entity parent)) }
     {
         let found = mentions_at_of(
             &self.pages.mentions,
@@ -54,7 +55,8 @@ impl Rows {
         version: u128,
         parent: u128,
     ) -> Result<List<Key>, NoMemory>
-        ensures { IfOk result (λ keys. keys ≡ spec.child_keys (of_version version self.now.list) entity parent) }
+        ensures keys { IfOk result (λ keys. keys ≡ spec.child_keys (of_version version self.now.list) entity parent) }
+        ensures wanted { OnErr result (0 < length (spec.child_keys (of_version version self.now.list) entity parent)) }
     {
         let found = mentions_at_of(
             &self.pages.mentions,
@@ -85,7 +87,7 @@ impl Rows {
 
     /// A walk over the rows with greater keys. It takes no memory.
     pub fn behind(&self, key: &Key) -> Walk<'_>
-        ensures { result ≡ filter (λ row. is_gt (from_key key.now row)) self.now.list }
+        ensures { result ≡ filter (λ row. is_gt (key_cmp row.key key.now)) self.now.list }
     {
         let walk = Walk::over(self.pages.rows.runs_from(key));
         match self.pages.get(key) {
@@ -108,7 +110,8 @@ impl Rows {
         entity: Entity,
         version: u128,
     ) -> Result<List<Key>, NoMemory>
-        ensures { IfOk result (λ keys. keys ≡ spec.keys_of (of_version version self.now.list) entity) }
+        ensures keys { IfOk result (λ keys. keys ≡ spec.keys_of (of_version version self.now.list) entity) }
+        ensures wanted { OnErr result (0 < length (spec.keys_of (of_version version self.now.list) entity)) }
     {
         let keys = keys_of_rows(alloc, rows_of(&self.pages, entity, version))?;
         Ok(List::from_vec(keys))
@@ -138,14 +141,16 @@ impl Rows {
 
     /// The keys, ascending, of all rows that `twin` looks for.
     pub fn twins(&self, alloc: Global, row: &Row) -> Result<List<Key>, NoMemory>
-        ensures { IfOk result (λ keys. keys ≡ spec.twins self.now.list row.now) }
+        ensures keys { IfOk result (λ keys. keys ≡ spec.twins self.now.list row.now) }
+        ensures wanted { OnErr result (0 < length (spec.twins self.now.list row.now)) }
     {
         self.twins_in(alloc, row.key.version, row)
     }
 
     /// The keys, ascending, of all rows that `twin_in` looks for.
     pub fn twins_in(&self, alloc: Global, version: u128, row: &Row) -> Result<List<Key>, NoMemory>
-        ensures { IfOk result (λ keys. keys ≡ spec.twins_in version self.now.list row.now) }
+        ensures keys { IfOk result (λ keys. keys ≡ spec.twins_in version self.now.list row.now) }
+        ensures wanted { OnErr result (0 < length (spec.twins_in version self.now.list row.now)) }
     {
         match print_in(version, row) {
             Some(print) => {
@@ -160,7 +165,8 @@ impl Rows {
     /// The keys, ascending, of the live rows that refer to the one at the key, whatever version the
     /// key has, by a reference that a delete looks at.
     pub fn referrers_of(&self, alloc: Global, key: &Key) -> Result<List<Key>, NoMemory>
-        ensures { IfOk result (λ keys. keys ≡ referrers REFERENCES (live self.now.list) (entity_number key.now.entity) key.now.id) }
+        ensures keys { IfOk result (λ keys. keys ≡ referrers REFERENCES (live self.now.list) (entity_number key.now.entity) key.now.id) }
+        ensures wanted { OnErr result (0 < length (referrers REFERENCES (live self.now.list) (entity_number key.now.entity) key.now.id)) }
     {
         self.referrers_in(alloc, 0, key)
     }
@@ -172,7 +178,8 @@ impl Rows {
         version: u128,
         key: &Key,
     ) -> Result<List<Key>, NoMemory>
-        ensures { IfOk result (λ keys. keys ≡ referrers REFERENCES (of_version version self.now.list) (entity_number key.now.entity) key.now.id) }
+        ensures keys { IfOk result (λ keys. keys ≡ referrers REFERENCES (of_version version self.now.list) (entity_number key.now.entity) key.now.id) }
+        ensures wanted { OnErr result (0 < length (referrers REFERENCES (of_version version self.now.list) (entity_number key.now.entity) key.now.id)) }
     {
         let topic = referring(key.entity, version, key.id);
         let keys = keys_of(alloc, mentions_at(&self.pages.mentions, topic))?;
@@ -187,7 +194,8 @@ impl Rows {
         version: u128,
         key: &Key,
     ) -> Result<List<Key>, NoMemory>
-        ensures { IfOk result (λ keys. keys ≡ spec.referrers_by entity (of_version version self.now.list) (entity_number key.now.entity) key.now.id) }
+        ensures keys { IfOk result (λ keys. keys ≡ spec.referrers_by entity (of_version version self.now.list) (entity_number key.now.entity) key.now.id) }
+        ensures wanted { OnErr result (0 < length (spec.referrers_by entity (of_version version self.now.list) (entity_number key.now.entity) key.now.id)) }
     {
         let topic = referring(key.entity, version, key.id);
         let keys = keys_of(alloc, mentions_at_of(&self.pages.mentions, topic, entity))?;

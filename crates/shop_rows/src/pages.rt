@@ -130,6 +130,10 @@ fn moved(
     ensures sorted { IfOk result (λ next. Ascends mention_cmp itself (spec.mentions_in next)) }
     ensures fit { IfOk result (λ next. (mention : Mention) → has (spec.mentions_in next) mention ≡ (among come.items mention || (not (among gone.items mention) && has (spec.mentions_in mentions.now) mention))) }
 {
+    if gone.is_empty() {
+        let next = with_these(alloc, mentions, come)?;
+        return Ok(next);
+    }
     let fewer = without_these(alloc, mentions, gone)?;
     let next = with_these(alloc, &fewer, come)?;
     Ok(next)

@@ -4,4 +4,4 @@ use Rattle.shop_write.proofs.LiveLooks.{twins-at_live}
 use Rattle.shop_write.proofs.live.RowsView.twins.Goals as goal
 
 pub returns : goal.returns
-returns c = c.in_ok-keys.ensures ∙ (ap (twins c.args.self.now.list) c.in_ok-live.ensures ∙ twins-at_live c.args.self.now.list c.args.row.now)
+returns c = c.in_ok-keys.ensures.keys ∙ (ap (twins c.args.self.now.list) c.in_ok-live.ensures ∙ twins-at_live c.args.self.now.list c.args.row.now)
