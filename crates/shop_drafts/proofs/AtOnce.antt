@@ -36,7 +36,7 @@ use Rattle.shop_drafts.proofs.Orders.{filter_all, filter_none, parts_together}
 use Rattle.shop_drafts.proofs.Apart.{filter-with, made_is, made_apart}
 use Rattle.shop_drafts.proofs.Shown.{made_in_order}
 
-itself : (k : Key) → key_cmp k k ≡ Equal
+pub itself : (k : Key) → key_cmp k k ≡ Equal
 itself k = by (key_cmp k k) refl
   where
     by : (o : Ordering) → key_cmp k k ≡ o → o ≡ Equal
@@ -46,7 +46,7 @@ itself k = by (key_cmp k k) refl
 
 -- ---- the draft is there
 
-puts_end : (xs ys : List Row) (y : Row) → with_rows xs (ys ++ y ∷ []) ≡ put key_cmp row_key (with_rows xs ys) y
+pub puts_end : (xs ys : List Row) (y : Row) → with_rows xs (ys ++ y ∷ []) ≡ put key_cmp row_key (with_rows xs ys) y
 puts_end xs [] y = refl
 puts_end xs (x ∷ ys) y = puts_end (put key_cmp row_key xs x) ys y
 
@@ -113,14 +113,14 @@ module _ (rows : List Row) (version : ℕ) (n : version ≢ 0) (sound : list_all
   no_commit : is_commit version row ≡ false
   no_commit = not_commit (is_commit version row) refl
 
-  not_of : is_of_draft version row ≡ false
+  pub not_of : is_of_draft version row ≡ false
   not_of =
       ap (λ x. x || ((is_live row && stands_at (draft_key version) row) || is_commit version row)) (not_own (row.key.version == version) refl)
       ∙ (ap (λ x. x || is_commit version row) (not_draft (is_live row && stands_at (draft_key version) row) refl) ∙ no_commit)
 
 -- ---- so it is merged into what was there
 
-and_last : {X : Type 0} (P : X → Type 0) (xs : List X) (y : X) → AllByRecursion P xs → P y → AllByRecursion P (xs ++ y ∷ [])
+pub and_last : {X : Type 0} (P : X → Type 0) (xs : List X) (y : X) → AllByRecursion P xs → P y → AllByRecursion P (xs ++ y ∷ [])
 and_last P [] y all p = (p, tt)
 and_last P (x ∷ xs) y all p = (all.0, and_last P xs y all.1 p)
 
@@ -131,14 +131,14 @@ copied_none version (row ∷ rows) n = (ap (λ b. b && (is_entity E.DraftCommit 
 commit_by_key : (version : ℕ) (a b : Row) → a.key ≡ b.key → is_commit version a ≡ is_commit version b
 commit_by_key version a b e = rw e refl
 
-no_commits : (rows : List Row) (version : ℕ) (root : Root) → version ≢ 0 → list_all (passes_draft rows) rows ≡ true → row_at rows (draft_key version) ≡ None → commits (made rows version root) version ≡ []
+pub no_commits : (rows : List Row) (version : ℕ) (root : Root) → version ≢ 0 → list_all (passes_draft rows) rows ≡ true → row_at rows (draft_key version) ≡ None → commits (made rows version root) version ≡ []
 unfolding made
 no_commits rows version root n sound none =
     filter-with (is_commit version) (commit_by_key version) (made_rows rows version root) rows
     (and_last (λ row. is_commit version row ≡ false) (copies rows version root) (new_draft version root) (copied_none version (filter (is_part root) (live rows)) n) refl)
     ∙ filter_none (is_commit version) rows (each_of (λ row. is_commit version row ≡ false) rows (λ row i. no_commit rows version n sound none row i))
 
-dropped_none : (rows : List Row) (version : ℕ) → version ≢ 0 → list_all (passes_draft rows) rows ≡ true → row_at rows (draft_key version) ≡ None → dropped rows version ≡ rows
+pub dropped_none : (rows : List Row) (version : ℕ) → version ≢ 0 → list_all (passes_draft rows) rows ≡ true → row_at rows (draft_key version) ≡ None → dropped rows version ≡ rows
 unfolding dropped
 dropped_none rows version n sound none =
     filter_all (λ row. not (is_of_draft version row)) rows (each_of (λ row. not (is_of_draft version row) ≡ true) rows (λ row i. ap not (not_of rows version n sound none row i)))
@@ -152,12 +152,12 @@ merged_made rows version root up n sound none =
     ∙ (ap (λ (all : List Row). Ok (dropped all version)) (parts_together key_cmp row_key key_cmp_total is_live now (made_in_order rows version root up))
     ∙ ap Ok (made_apart rows version root ∙ dropped_none rows version n sound none)))
 
-second_none : (a b : Option Broken) (rest : List (Option Broken)) → first (a ∷ b ∷ rest) ≡ None → b ≡ None
+pub second_none : (a b : Option Broken) (rest : List (Option Broken)) → first (a ∷ b ∷ rest) ≡ None → b ≡ None
 second_none None None rest e = refl
 second_none None (Some broken) rest e = e
 second_none (Some broken) b rest e = cc
 
-not_there : (version : ℕ) (found : Option Row) → (if is_some found then Some (B.VersionExists version) else None) ≡ None → found ≡ None
+pub not_there : (version : ℕ) (found : Option Row) → (if is_some found then Some (B.VersionExists version) else None) ≡ None → found ≡ None
 not_there version None e = refl
 not_there version (Some row) e = cc
 
@@ -166,3 +166,10 @@ at_once rows now version name id up sound n e =
     let m = made_is rows now version name id e in
     let none = not_there version (row_at rows (draft_key version)) (second_none (not_root m.root) (version_exists rows version) (no_such_root rows m.root ∷ too_many_made rows version m.root ∷ []) m.unbroken) in
     subst (λ (after : List Row). merge after version ≡ Ok rows) m.is (merged_made rows version m.root up n sound none)
+
+-- where a draft is made, nothing was of it
+pub nothing_was : (rows now : List Row) (version : ℕ) (name : List ℕ) (id : ℕ) → list_all (passes_draft rows) rows ≡ true → version ≢ 0 → make_draft rows version name id ≡ Ok now → dropped rows version ≡ rows
+nothing_was rows now version name id sound n e =
+    let m = made_is rows now version name id e in
+    let none = not_there version (row_at rows (draft_key version)) (second_none (not_root m.root) (version_exists rows version) (no_such_root rows m.root ∷ too_many_made rows version m.root ∷ []) m.unbroken) in
+    dropped_none rows version n sound none

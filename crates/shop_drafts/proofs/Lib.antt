@@ -1,5 +1,6 @@
 pub mod Keys
 pub mod Orders
+pub mod Counts
 pub mod OwnParts
 pub mod HeldOps
 pub mod Unwritten

@@ -48,7 +48,7 @@ op_in_order view op rows up e = by op.kind e
     by Upsert f = subst IsInPlaceOrder (accepted view op rows f).rows_are (upsert_in_order view.rows (left view.rows (place view op) op) up)
     by Delete f = found (row_in view.rows (place view op)) f
 
-replayed_in_order : (view : View) (entries : List Logged) (now : List Row) → IsInPlaceOrder view.rows → replayed view entries ≡ Ok now → IsInPlaceOrder now
+pub replayed_in_order : (view : View) (entries : List Logged) (now : List Row) → IsInPlaceOrder view.rows → replayed view entries ≡ Ok now → IsInPlaceOrder now
 replayed_in_order view [] now up e = let same : view.rows ≡ now = cc in subst IsInPlaceOrder same up
 replayed_in_order view (entry ∷ rest) now up e = by (λ rows. replayed_in_order (record view { rows = rows }) rest now) (operated view entry.op true) refl e
   where
@@ -71,7 +71,7 @@ none_live (row ∷ rows) = by (none_live rows) (is_live row) refl
     by more true e = rw e more
     by more false e = rw (e, e) more
 
-live_of_parts : (rows now : List Row) → IsInKeyOrder rows → AllLive now → IsInPlaceOrder now → live (with_live rows now) ≡ now
+pub live_of_parts : (rows now : List Row) → IsInKeyOrder rows → AllLive now → IsInPlaceOrder now → live (with_live rows now) ≡ now
 live_of_parts rows now up all on =
     filter_puts_pass key_cmp row_key key_cmp_total is_live now (drafted rows) (ascends_filter key_cmp row_key (λ row. not (is_live row)) rows up) (are_live now all)
     ∙ (ap (λ (first : List Row). fold (put key_cmp row_key) first now) (none_live rows)

@@ -87,7 +87,7 @@ over_kept version other root rows up n m =
     ∙ ap (λ (mine : List Row). fold with_row (filter (is_open root mine) (live (dropped rows version))) mine) (sym (own_kept version other rows n m)))
 
 -- a row at a key that passes is found
-found_kept : (p : Row → Bool) (rows : List Row) (key : Key) → ((row : Row) → row.key ≡ key → p row ≡ true) → row_at (filter p rows) key ≡ row_at rows key
+pub found_kept : (p : Row → Bool) (rows : List Row) (key : Key) → ((row : Row) → row.key ≡ key → p row ≡ true) → row_at (filter p rows) key ≡ row_at rows key
 found_kept p [] key f = refl
 found_kept p (row ∷ rows) key f = by (found_kept p rows key f) (p row) refl (key_cmp row.key key) refl
   where
@@ -99,7 +99,7 @@ found_kept p (row ∷ rows) key f = by (found_kept p rows key f) (p row) refl (k
     by more false e Equal g = absurd (false≢true (sym e ∙ f row (key_is row.key key g)))
     by more false e Greater g = rw (e, g) more
 
-other_draft : (version other : ℕ) (row : Row) → version ≢ 0 → other ≢ version → row.key ≡ draft_key other → not (is_of_draft version row) ≡ true
+pub other_draft : (version other : ℕ) (row : Row) → version ≢ 0 → other ≢ version → row.key ≡ draft_key other → not (is_of_draft version row) ≡ true
 other_draft version other row n m e = of_draft_by_key version row (record row { key = draft_key other }) e ∙ by (0 == version) (ne_eqb 0 version (λ f. n (sym f))) (version == other) (ne_eqb version other (λ f. m (sym f)))
   where
     by : (a : Bool) → a ≡ false → (b : Bool) → b ≡ false → not (a || ((b && true) || false)) ≡ true
@@ -140,18 +140,18 @@ pub made_in_order : (rows : List Row) (version : ℕ) (root : Root) → IsInKeyO
 unfolding made
 made_in_order rows version root up = ascends_puts key_cmp row_key key_cmp_total (made_rows rows version root) rows up
 
-written_in_order : (rows : List Row) (version : ℕ) (draft : Row) (ops : List Op) (shown : List Row) → IsInKeyOrder rows → IsInKeyOrder (written rows version draft ops shown)
+pub written_in_order : (rows : List Row) (version : ℕ) (draft : Row) (ops : List Op) (shown : List Row) → IsInKeyOrder rows → IsInKeyOrder (written rows version draft ops shown)
 unfolding written
 written_in_order rows version draft ops shown up =
     ascends_puts key_cmp row_key key_cmp_total (with_commits (next_number rows version) draft ∷ new_commit version (next_number rows version) ops ∷ []) (with_rows (without_version rows version) (of_version version shown))
     (ascends_puts key_cmp row_key key_cmp_total (of_version version shown) (without_version rows version)
     (ascends_filter key_cmp row_key (λ row. not (row.key.version == version)) rows up))
 
-dropped_in_order : (rows : List Row) (version : ℕ) → IsInKeyOrder rows → IsInKeyOrder (dropped rows version)
+pub dropped_in_order : (rows : List Row) (version : ℕ) → IsInKeyOrder rows → IsInKeyOrder (dropped rows version)
 unfolding dropped
 dropped_in_order rows version up = ascends_filter key_cmp row_key (λ row. not (is_of_draft version row)) rows up
 
-dropped_again : (rows : List Row) (version : ℕ) → dropped (dropped rows version) version ≡ dropped rows version
+pub dropped_again : (rows : List Row) (version : ℕ) → dropped (dropped rows version) version ≡ dropped rows version
 unfolding dropped
 dropped_again rows version = filter_again (λ row. not (is_of_draft version row)) rows
 

@@ -24,16 +24,19 @@
 //! - `law_of_replays`: a replay keeps live rows coherent and well formed, and leaves drafts, their
 //!   commits and all else that operations may not write as they were.
 //! - `law_of_the_worked_rows` has two days of a shop as the definitions compute them.
-//! - Nothing here is done yet by a call: `specs/` is what later calls are held to.
+//! - `draft_key`, `commit_key` and `root_of` are the keys of the rows that keep a draft, and what its row
+//!   says that it is made of. What is done with drafts over the rows of a shop is `shop_version`'s.
 #![tactic(auto)]
 
 mod aggregate;
+mod keeping;
 mod laws;
 
 pub use aggregate::{
     COMMITS, COUNT, MEMBERS, MOST_OPS, Member, ROOT, ROOT_ENTITY, Root, has_versions, is_part,
     is_root,
 };
+pub use keeping::{commit_key, draft_key, root_of};
 pub use laws::{
     law_of_merges, law_of_other_rows, law_of_replays, law_of_the_parts, law_of_the_parts_shown,
     law_of_the_views, law_of_the_worked_rows,

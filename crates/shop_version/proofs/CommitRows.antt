@@ -1,10 +1,9 @@
 -- The rows that a batch in a draft puts beside the draft's own: the draft's row with a commit more, and the commit.
-use Rattle.std.proofs.Common.{◌≡◌, ◌<◌, ◌≤◌, ◌+◌, ◌^◌, ℕ, pos, Bool, true, false, not, List, [], ◌∷◌, length, count_by, arith, refl, sym, ap, subst, ◌∙◌, Option, Some, None, if◌then◌else◌}
-use Rattle.std.specs.Prelude.{◌==◌, ◌&&◌, ◌||◌, is_some}
-use Rattle.std.specs.List.{fold, list_all}
-use Rattle.std.proofs.lemmas.Bool.{and_parts, eqb-true, eq-eqb, leb-true, false≢true}
+use Rattle.std.proofs.Common.{◌≡◌, ◌<◌, ◌≤◌, ◌+◌, ◌^◌, ℕ, pos, true, not, List, [], ◌∷◌, length, count_by, arith, refl, ap, subst, ◌∙◌, Option, Some, None}
+use Rattle.std.specs.Prelude.{◌&&◌, ◌||◌, is_some}
+use Rattle.std.specs.List.{fold}
+use Rattle.std.proofs.lemmas.Bool.{and_parts, leb-true}
 use Rattle.std.proofs.lemmas.List.Sums.{length-filter}
-use Rattle.closure.specs.Closure.{IsIn}
 use Rattle.closure.proofs.Members.{all_at}
 use Rattle.shop_defs.specs.declared.entity.Entity.{Entity}
 use Rattle.shop_defs.specs.declared.entity.Entity.TheVariants as E
@@ -25,7 +24,6 @@ use Rattle.shop_drafts.specs.Damage.{count_up, is_number, passes_draft, has_its_
 use Rattle.shop_drafts.specs.Drafts.{draft_key, commits, is_commit, root_with, named_entity, root_of}
 use Rattle.shop_drafts.specs.Soundness.{AreDrafted}
 use Rattle.shop_drafts.specs.Writing.{with_commits}
-use Rattle.shop_drafts.specs.declared.aggregate.Root.{Root}
 use Rattle.shop_drafts.specs.declared.aggregate.TheConstants.{COMMITS}
 use Rattle.shop_rows.proofs.Mentioning.{found_key}
 use Rattle.shop_version.proofs.Found.{in_found}

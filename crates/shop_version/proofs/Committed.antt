@@ -1,18 +1,17 @@
 -- What operations changed of a draft's rows, and the commit, made one delta.
-use Rattle.std.proofs.Common.{◌≡◌, ◌≢◌, ◌⊎◌, inl, inr, ℕ, Bool, true, false, not, List, [], ◌∷◌, ◌++◌, refl, sym, ap, subst, ◌∙◌, Option, Some, None, if◌then◌else◌}
-use Rattle.std.specs.Prelude.{◌==◌, filter, is_some}
-use Rattle.std.specs.List.{AllByRecursion, fold, flat_map}
+use Rattle.std.proofs.Common.{◌≡◌, ℕ, Bool, true, false, not, List, [], ◌∷◌, ◌++◌, refl, sym, ap, ◌∙◌, Option, Some, None, if◌then◌else◌}
+use Rattle.std.specs.Prelude.{◌==◌}
+use Rattle.std.specs.List.{AllByRecursion, fold}
 use Rattle.std.specs.declared.cmp.Ordering.{Ordering}
 use Rattle.std.specs.declared.cmp.Ordering.TheVariants.{Less, Equal, Greater}
 use Rattle.std.specs.Ordering.{is_eq}
-use Rattle.std.proofs.lemmas.Bool.{eqb-true, eq-eqb, ne_eqb, false≢true}
+use Rattle.std.proofs.lemmas.Bool.{eq-eqb, false≢true}
 use Rattle.std.proofs.lemmas.Grind.{flat_map-append}
 use Rattle.std.proofs.lemmas.List.{append-nil}
-use Rattle.keyed.specs.Keyed.{find}
 use Rattle.shop_defs.specs.declared.delta.Delta.{Delta}
 use Rattle.shop_defs.specs.declared.key.Key.{Key}
 use Rattle.shop_defs.specs.declared.row.Row.{Row}
-use Rattle.shop_defs.specs.Joined.{Change, change_key, joined, all_changes, add_changes, last_in, change_at, later_of}
+use Rattle.shop_defs.specs.Joined.{Change, change_key, joined, all_changes, add_changes, last_in, later_of}
 use Rattle.shop_defs.specs.Keys.{key_cmp}
 use Rattle.shop_defs.specs.Rows.{row_key, row_at, change_row, change_rows, IsInKeyOrder}
 use Rattle.shop_defs.proofs.Keys.{key_cmp_total}

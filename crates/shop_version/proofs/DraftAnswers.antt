@@ -1,5 +1,5 @@
 -- What the plan of a batch in a draft answers, by what its calls answered.
-use Rattle.std.proofs.Common.{◌≡◌, ◌≢◌, ◌+◌, ◌<◌, ◌≤◌, zero, suc, arith, if◌then◌else◌, ℕ, Bool, true, false, List, [], ◌∷◌, ◌++◌, length, drop, refl, sym, ap, subst, ◌∙◌, Option, Some, None, Result, Ok, Err}
+use Rattle.std.proofs.Common.{◌≡◌, ◌≢◌, ◌≤◌, arith, ℕ, true, false, List, [], ◌∷◌, length, refl, sym, ap, subst, ◌∙◌, Option, Some, None, Result, Ok, Err}
 use Rattle.shop_defs.specs.declared.refused.PlanFault.{PlanFault}
 use Rattle.shop_defs.specs.declared.refused.PlanFault.TheVariants as F
 use Rattle.shop_defs.specs.declared.delta.Delta.{Delta}
@@ -10,15 +10,14 @@ use Rattle.shop_defs.specs.Rows.{row_at, change_rows, IsInKeyOrder}
 use Rattle.shop_requests.specs.declared.raw.RawOp.{RawOp}
 use Rattle.shop_requests.specs.Operations.{reading}
 use Rattle.std.specs.Result.{IsErrAnd}
-use Rattle.std.specs.List.{filter_map}
 use Rattle.shop_drafts.specs.Drafts.{draft_key, root_of, draft_view}
 use Rattle.shop_drafts.proofs.Seen.{drafts_are_views}
 use Rattle.shop_operations.specs.Views.{View}
 use Rattle.shop_drafts.specs.Soundness.{AreDrafted}
-use Rattle.shop_drafts.specs.Writing.{batch_in, read_all, if_ok, no_draft, draft_write, next_number, is_log_full, log_full, written}
+use Rattle.shop_drafts.specs.Writing.{batch_in, read_all, if_ok, next_number, is_log_full, log_full}
 use Rattle.shop_drafts.specs.declared.aggregate.Root.{Root}
 use Rattle.shop_version.specs.DraftSteps.{AreDone, IsCommitted, IsNoDraft, IsBatchFault}
-use Rattle.shop_version.specs.DraftWrites.{AreFormed, IsWritePlan, IsWriteFault, PlansWrite, IsBatchInView, WriteIsBatch}
+use Rattle.shop_version.specs.DraftWrites.{AreFormed, IsWritePlan, IsWriteFault, PlansWrite, IsBatchInView}
 use Rattle.shop_version.specs.Overlays.{Layer, IsLayer, found_layer, layer_rows, layer_view}
 use Rattle.shop_version.proofs.DraftBatches.{write_refused, left_is, write_plan, write_batch, write_missing, write_rootless, write_full}
 
@@ -74,7 +73,7 @@ full_fault rows version root draft slice ops first after count fault there roote
     ap (λ v. batch_in root v 1 ops) (sym view) ∙ (ap (λ (l : Layer). batch_in l.root (layer_view first) 1 ops) (sym found) ∙ (ap (batch_in first.root (layer_view first) 1) (sym same) ∙ done)) in
     subst (IsWriteFault rows version ops) (sym (is ∙ ap (λ n. F.Refused (log_full n)) counted)) (write_full rows version root draft ops (layer_rows after) there rooted here full)
 
-read_few : (ops : List RawOp) → length (read_all ops) ≤ length ops
+pub read_few : (ops : List RawOp) → length (read_all ops) ≤ length ops
 read_few [] = omega arith
 read_few (op ∷ rest) = by (read_few rest) (if_ok (reading op)) refl
   where

@@ -1,9 +1,8 @@
 -- A batch in a draft, operation by operation.
-use Rattle.std.proofs.Common.{◌≡◌, ◌≢◌, ◌<◌, ◌≤◌, ◌+◌, ◌⊎◌, inl, inr, ℕ, zero, suc, Bool, true, false, not, List, [], ◌∷◌, ◌++◌, length, get_or, drop, drop-cons, add-one, append_assoc, arith, refl, sym, ap, subst, ◌∙◌, Option, Some, None, if◌then◌else◌, Result, Ok, Err}
-use Rattle.std.specs.Prelude.{filter, map, nat_lt, ◌==◌, ◌&&◌, is_some}
-use Rattle.std.specs.List.{AllByRecursion, fold, filter_map, list_all}
+use Rattle.std.proofs.Common.{◌≡◌, ◌≢◌, ◌<◌, ◌+◌, ◌⊎◌, ℕ, suc, Bool, true, false, not, List, [], ◌∷◌, ◌++◌, length, get_or, drop, drop-cons, add-one, append_assoc, refl, sym, ap, subst, ◌∙◌, Option, Some, None, if◌then◌else◌, Result, Ok, Err}
+use Rattle.std.specs.Prelude.{map, ◌==◌}
+use Rattle.std.specs.List.{AllByRecursion}
 use Rattle.closure.specs.Closure.{IsIn}
-use Rattle.closure.proofs.Members.{all_at}
 use Rattle.shop_defs.specs.declared.broken.Broken.{Broken}
 use Rattle.shop_defs.specs.declared.delta.Delta.{Delta}
 use Rattle.shop_defs.specs.declared.key.Key.{Key}
@@ -14,34 +13,32 @@ use Rattle.shop_defs.specs.declared.refused.PlanFault.{PlanFault}
 use Rattle.shop_defs.specs.declared.refused.PlanFault.TheVariants as F
 use Rattle.shop_defs.specs.declared.refused.Refused.{Refused}
 use Rattle.shop_defs.specs.declared.row.Row.{Row}
-use Rattle.shop_defs.specs.Fitting.{row_key_fits, op_fits}
+use Rattle.shop_defs.specs.Fitting.{op_fits}
 use Rattle.shop_defs.specs.Joined.{Change, joined, all_changes}
 use Rattle.shop_defs.specs.Keys.{key_cmp}
-use Rattle.shop_defs.specs.Rows.{row_key, row_at, change_row, change_rows, IsInKeyOrder}
+use Rattle.shop_defs.specs.Rows.{row_key, row_at, change_rows, IsInKeyOrder}
 use Rattle.shop_requests.specs.declared.raw.RawOp.{RawOp}
 use Rattle.shop_requests.specs.Operations.{reading, IsFaultOf}
 use Rattle.shop_defs.specs.declared.table.TheConstants.{REFERENCES}
 use Rattle.shop_operations.specs.Deletes.{deleted, in_use}
-use Rattle.shop_operations.specs.Operations.{place, broken_by, in_use_by, operated, by_kind, upserted, removed, unless}
+use Rattle.shop_operations.specs.Operations.{place, broken_by, in_use_by, operated, by_kind, removed, unless}
 use Rattle.shop_operations.specs.References.{of_version}
 use Rattle.shop_operations.specs.Upserts.{row_in, with_row, left}
 use Rattle.shop_operations.specs.Views.{View, change_places}
-use Rattle.shop_rows.specs.Changing.{StandsUnderItsKey, StandUnderTheirKeys, HasAscendingKeys}
-use Rattle.shop_soundness.specs.Batches.{numbered}
+use Rattle.shop_rows.specs.Changing.{StandUnderTheirKeys, HasAscendingKeys}
 use Rattle.shop_soundness.proofs.InOrder.{left_fits, upsert_formed, delete_formed}
 use Rattle.std.proofs.lemmas.Bool.{and_parts, eq-eqb, ne_eqb}
-use Rattle.shop_drafts.specs.Drafts.{draft_key, root_of, draft_view, over}
+use Rattle.shop_drafts.specs.Drafts.{draft_key, root_of, draft_view}
 use Rattle.shop_drafts.specs.Making.{with_rows}
-use Rattle.shop_drafts.specs.Writing.{not_versioned, unless_not_versioned, unless_outside, outside, done_in, if_read_in, batch_in, read_all, if_ok, no_draft, draft_write, write_in, write_with, write_shown, unless_full, is_log_full, log_full, written, next_number, with_commits, new_commit, without_version}
+use Rattle.shop_drafts.specs.Writing.{not_versioned, unless_not_versioned, unless_outside, outside, done_in, if_read_in, batch_in, read_all, no_draft, draft_write, write_in, write_with, write_shown, is_log_full, log_full, written, next_number, with_commits, new_commit, without_version}
 use Rattle.shop_drafts.specs.declared.aggregate.Root.{Root}
 use Rattle.shop_drafts.proofs.Apart.{writing}
 use Rattle.shop_drafts.proofs.Seen.{drafts_are_views}
 use Rattle.shop_drafts.proofs.Shown.{nothing_else_changes}
-use Rattle.shop_write.specs.BatchPlans.{HaveIds}
 use Rattle.shop_write.specs.Planning.{IsPlan, IsPlanFault, IsOfView}
 use Rattle.shop_write.specs.Writes.{TakesUpsert}
 use Rattle.shop_version.specs.DraftSteps.{own_changes, AreOwn, StandAll, doing, IsDoingFault, IsRawFault, IsStepFault, IsBatchFault, IsDone, AreDone, IsCommitted, commit_changes}
-use Rattle.shop_version.specs.DraftWrites.{AreFormed, IsWritePlan, IsWriteFault, PlansWrite, LeavesOthers, WriteLeavesOthers, IsBatchInView, WriteIsBatch}
+use Rattle.shop_version.specs.DraftWrites.{AreFormed, IsWritePlan, IsWriteFault, PlansWrite, WriteLeavesOthers, IsBatchInView}
 use Rattle.shop_version.specs.Overlays.{Layer, IsLayer, found_layer, open_rows, layer_rows, layer_view, IsOwnChange}
 use Rattle.shop_version.proofs.Committed.{change_append, all_append, joined_stand, joined_rows, all_stand, changes_more, stand_more, own_changed}
 use Rattle.shop_version.proofs.Layers.{layer_up, open_up, own_all, view_found, of_version-layer}

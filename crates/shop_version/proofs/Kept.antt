@@ -55,7 +55,7 @@ draft_passes version row e = subst (λ (key : Key). ((key.version == 0) && stand
 members_below : list_all (λ (member : Member). nat_lt (entity_number member.entity) 24) MEMBERS ≡ true
 members_below = refl
 
-below_drafts : (row : Row) → list_any (of_member row) MEMBERS ≡ true → entity_number row.key.entity < 24
+pub below_drafts : (row : Row) → list_any (of_member row) MEMBERS ≡ true → entity_number row.key.entity < 24
 below_drafts row e =
     let found = any_of (of_member row) MEMBERS e in
     let low = ltb-true (entity_number found.one.entity) 24 (of_each (λ (member : Member). nat_lt (entity_number member.entity) 24 ≡ true) MEMBERS found.one (each_passes (λ (member : Member). nat_lt (entity_number member.entity) 24) MEMBERS members_below) found.is_in) in
@@ -63,20 +63,20 @@ below_drafts row e =
     omega arith
 
 -- a list with one row that passes
-only_one : (p : Row → Bool) (rows : List Row) (row : Row) → IsInKeyOrder rows → IsIn row rows → p row ≡ true → ((other : Row) → p other ≡ true → other.key ≡ row.key) → filter p rows ≡ row ∷ []
+pub only_one : (p : Row → Bool) (rows : List Row) (row : Row) → IsInKeyOrder rows → IsIn row rows → p row ≡ true → ((other : Row) → IsIn other rows → p other ≡ true → other.key ≡ row.key) → filter p rows ≡ row ∷ []
 only_one p [] row up i e only = absurd i
-only_one p (x ∷ rows) row up i e only = by (λ j. only_one p rows row up.1 j e only) (p x) refl i
+only_one p (x ∷ rows) row up i e only = by (λ j. only_one p rows row up.1 j e (λ other k. only other (inr k))) (p x) refl i
   where
     none : x.key ≡ row.key → filter p rows ≡ []
     none same = filter_none p rows (each_of (λ y. p y ≡ false) rows (λ y j. test y j (p y) refl))
       where
         test : (y : Row) → IsIn y rows → (b : Bool) → p y ≡ b → b ≡ false
-        test y j true f = absurd (less_itself x.key (subst (λ key. key_cmp x.key key ≡ Less) (only y f ∙ sym same) (of_each (λ z. key_cmp x.key z.key ≡ Less) rows y up.0 j)))
+        test y j true f = absurd (less_itself x.key (subst (λ key. key_cmp x.key key ≡ Less) (only y (inr j) f ∙ sym same) (of_each (λ z. key_cmp x.key z.key ≡ Less) rows y up.0 j)))
         test y j false f = refl
 
     by : (IsIn row rows → filter p rows ≡ row ∷ []) → (b : Bool) → p x ≡ b → (x ≡ row) ⊎ IsIn row rows → filter p (x ∷ rows) ≡ row ∷ []
     by more true f (inl same) = rw (f, none (ap row_key same), same) refl
-    by more true f (inr j) = absurd (less_itself x.key (subst (λ key. key_cmp x.key key ≡ Less) (sym (only x f)) (of_each (λ z. key_cmp x.key z.key ≡ Less) rows row up.0 j)))
+    by more true f (inr j) = absurd (less_itself x.key (subst (λ key. key_cmp x.key key ≡ Less) (sym (only x (inl refl) f)) (of_each (λ z. key_cmp x.key z.key ≡ Less) rows row up.0 j)))
     by more false f (inl same) = let g : p x ≡ true = ap p same ∙ e in let h : false ≡ true = sym f ∙ g in cc
     by more false f (inr j) = rw f (more j)
 
@@ -113,7 +113,7 @@ module _ (rows : List Row) (version : ℕ) (drafted : AreDrafted rows) (not_live
         (λ row other i j e f. let low = own_low row i e in let high = log_high other f in entity_below row.key other.key (omega arith))
         ∙ ap (λ ys. of_version version rows ++ ys)
         (cut_in_two (is_draft version) (is_commit version) rows drafted.in_order (λ row other i j e f. log_apart row other e f)
-        ∙ ap (λ ys. ys ++ commits rows version) (only_one (is_draft version) rows draft drafted.in_order draft_in (draft_passes version draft key) (λ other e. draft_is version other e ∙ sym key)))
+        ∙ ap (λ ys. ys ++ commits rows version) (only_one (is_draft version) rows draft drafted.in_order draft_in (draft_passes version draft key) (λ other j e. draft_is version other e ∙ sym key)))
 
     -- what the draft says of its commits
     pub numbered : (count_up 1 (commits rows version) && is_number (field_of draft COMMITS) (length (commits rows version))) ≡ true

@@ -6,9 +6,9 @@ use Rattle.std.specs.List.{AllByRecursion, fold}
 use Rattle.std.specs.Ordering.{is_eq, nat_cmp}
 use Rattle.std.specs.declared.cmp.Ordering.TheVariants.{Less}
 use Rattle.std.proofs.lemmas.Cmp.{nat_cmp_total}
-use Rattle.std.proofs.lemmas.Bool.{eqb-true, eq-eqb, ne_eqb, false≢true}
+use Rattle.std.proofs.lemmas.Bool.{eqb-true, ne_eqb, false≢true}
 use Rattle.std.proofs.lemmas.List.Sums.{length-filter}
-use Rattle.keyed.specs.Keyed.{Ascends, find, put}
+use Rattle.keyed.specs.Keyed.{Ascends, find}
 use Rattle.shop_defs.specs.declared.entity.Entity.{Entity}
 use Rattle.shop_defs.specs.declared.key.Key.{Key}
 use Rattle.shop_rows.specs.Lookups.{count_rows}

@@ -24,3 +24,11 @@ pub mod Committed
 pub mod CommitRows
 pub mod DraftBatches
 pub mod DraftAnswers
+pub mod LivePart
+pub mod Made
+pub mod Stays
+pub mod StillDrafted
+pub mod StillWritten
+pub mod AllDrafted
+pub mod Keepers
+pub mod StillCoherent

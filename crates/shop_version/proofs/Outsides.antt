@@ -1,7 +1,7 @@
 -- What a delete in a draft touches, found by what it reaches.
-use Rattle.std.proofs.Common.{◌≡◌, Bool, true, false, not, inl, inr, List, [], ◌∷◌, refl, sym, ap, subst, ◌∙◌, Option, Some, None, if◌then◌else◌}
+use Rattle.std.proofs.Common.{◌≡◌, Bool, true, false, not, inl, inr, List, [], ◌∷◌, refl, sym, ap, subst, ◌∙◌, Option, Some, None}
 use Rattle.std.specs.Prelude.{◌&&◌, ◌||◌, filter, map, find}
-use Rattle.std.specs.List.{AllByRecursion, fold}
+use Rattle.std.specs.List.{fold}
 use Rattle.std.specs.Option.{option_map, option_map_or}
 use Rattle.closure.specs.Closure.{IsIn}
 use Rattle.keyed.specs.Keyed as keyed
@@ -16,9 +16,7 @@ use Rattle.shop_operations.specs.Deletes.{goes, gone, kept, losing, loses_field}
 use Rattle.shop_operations.specs.Operations.{place, row_left, shown_key, keys_gone, keys_emptied}
 use Rattle.shop_write.specs.Reaching.{IsReach}
 use Rattle.shop_write.specs.declared.effects.Reached.{Reached}
-use Rattle.shop_operations.specs.Upserts.{place_cmp, row_in}
-use Rattle.shop_operations.specs.Views.{View, IsInPlaceOrder}
-use Rattle.shop_soundness.proofs.Lists.{each_of}
+use Rattle.shop_operations.specs.Upserts.{place_cmp}
 use Rattle.shop_drafts.specs.Aggregates.{is_part}
 use Rattle.shop_drafts.specs.Writing.{outside, touches}
 use Rattle.shop_write.proofs.InOrder.{guard, later, ascends_filter, ascends_map, ascends_puts, find_filter, find_puts, map_puts, same_from_find}

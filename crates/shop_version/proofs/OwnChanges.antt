@@ -1,27 +1,24 @@
 -- Own rows change: what the draft shows changes at the same places.
 use Rattle.std.proofs.Common.{◌≡◌, ℕ, Bool, true, false, List, [], ◌∷◌, refl, sym, ap, subst, ◌∙◌, Option, Some, None, if◌then◌else◌}
-use Rattle.std.specs.Prelude.{◌==◌, filter, is_some}
+use Rattle.std.specs.Prelude.{◌==◌}
 use Rattle.std.specs.List.{AllByRecursion, fold}
 use Rattle.std.specs.declared.cmp.Ordering.{Ordering}
 use Rattle.std.specs.declared.cmp.Ordering.TheVariants.{Less, Equal, Greater}
 use Rattle.std.specs.Ordering.{is_eq}
-use Rattle.std.proofs.lemmas.Bool.{eq-eqb, false≢true}
-use Rattle.keyed.specs.Keyed.{Ascends, find, put, without}
+use Rattle.std.proofs.lemmas.Bool.{eq-eqb}
+use Rattle.keyed.specs.Keyed.{find, put, without}
 use Rattle.keyed.proofs.Changes.{ascends_put, ascends_without, find_put, find_without}
 use Rattle.shop_defs.specs.declared.key.Key.{Key}
 use Rattle.shop_defs.specs.declared.row.Row.{Row}
 use Rattle.shop_defs.specs.Joined.{Change}
 use Rattle.shop_defs.specs.Keys.{key_cmp}
 use Rattle.shop_defs.specs.Rows.{row_key, change_row, change_rows, IsInKeyOrder}
-use Rattle.shop_defs.proofs.Keys.{key_cmp_total}
-use Rattle.shop_operations.specs.References.{of_version}
 use Rattle.shop_operations.specs.Upserts.{place_cmp, row_in, with_row}
 use Rattle.shop_operations.specs.Views.{IsInPlaceOrder, change_place, change_places}
-use Rattle.shop_rows.specs.Changing.{StandsUnderItsKey}
 use Rattle.shop_rows.proofs.ChangedRows.{in_order-change_rows}
 use Rattle.shop_version.specs.Overlays.{Layer, IsLayer, open_rows, layer_rows, IsOwnChange}
 use Rattle.shop_version.proofs.Layers.{AllOf, as_places, own_all, open_up, in_place_order}
-use Rattle.shop_write.proofs.InOrder.{later, same_from_find, ascends_puts, find_puts, find_as, filter_all, weaken, flip_equal}
+use Rattle.shop_write.proofs.InOrder.{later, same_from_find, ascends_puts, find_puts, find_as, filter_all, weaken}
 use Rattle.shop_write.proofs.Standing.{place_cmp_total}
 use Rattle.shop_write.proofs.WrittenRows.{row_in_is}
 

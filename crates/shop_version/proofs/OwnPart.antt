@@ -1,14 +1,14 @@
 -- Of the changes of an operation that leaves the live rows that show, those at the draft's own keys do all.
 use Rattle.std.proofs.Common.{◌≡◌, ◌≢◌, ◌<◌, arith, ◌⊎◌, inl, inr, ℕ, Bool, true, false, List, [], ◌∷◌, refl, sym, ap, subst, ◌∙◌, Option, Some, None, if◌then◌else◌}
-use Rattle.std.specs.Prelude.{◌==◌, ◌&&◌, filter, map, is_some, find}
+use Rattle.std.specs.Prelude.{◌==◌, ◌&&◌, filter, map, find}
 use Rattle.std.specs.List.{AllByRecursion, fold}
 use Rattle.std.specs.declared.cmp.Ordering.{Ordering}
 use Rattle.std.specs.declared.cmp.Ordering.TheVariants.{Less, Equal, Greater}
 use Rattle.std.specs.Ordering.{is_eq, nat_cmp, ordering_then}
-use Rattle.std.proofs.lemmas.Bool.{eqb-true, eq-eqb, ne_eqb, and_parts, and_from, false≢true, true≢false}
+use Rattle.std.proofs.lemmas.Bool.{eqb-true, eq-eqb, and_parts, and_from, false≢true}
 use Rattle.std.proofs.lemmas.Cmp.{nat_cmp_total, ranked}
 use Rattle.closure.specs.Closure.{IsIn}
-use Rattle.closure.proofs.Members.{of_filter, in_filter, of_map, in_map}
+use Rattle.closure.proofs.Members.{of_filter, of_map, in_map}
 use Rattle.keyed.specs.Keyed as keyed
 use Rattle.keyed.proofs.Changes.{ascends_put, ascends_without, find_put, find_without}
 use Rattle.shop_defs.specs.declared.key.Key.{Key}
@@ -22,17 +22,17 @@ use Rattle.shop_drafts.specs.Drafts.{is_open}
 use Rattle.shop_operations.specs.Deletes.{stands_at}
 use Rattle.shop_operations.specs.References.{is_live, live}
 use Rattle.shop_operations.specs.Upserts.{place_cmp, row_in, with_row}
-use Rattle.shop_operations.specs.Views.{View, IsInPlaceOrder, change_place, change_places}
+use Rattle.shop_operations.specs.Views.{IsInPlaceOrder, change_place, change_places}
 use Rattle.shop_rows.specs.Changing.{StandsUnderItsKey, StandUnderTheirKeys, HasAscendingKeys}
 use Rattle.shop_soundness.proofs.Lists.{of_each, each_of, finds, find_of, no_some}
 use Rattle.shop_soundness.proofs.Places.{AtOnePlace, at_one_place, place_equal, place_on, place_back, place_stands}
 use Rattle.shop_write.specs.Planning.{IsOfView}
-use Rattle.shop_write.proofs.InOrder.{itself, ascends_filter, same_from_find, find_as}
+use Rattle.shop_write.proofs.InOrder.{itself, ascends_filter, same_from_find}
 use Rattle.shop_write.proofs.Standing.{row_found, place_cmp_total}
 use Rattle.shop_write.proofs.WrittenRows.{row_in_is, put_of}
 use Rattle.shop_version.specs.DraftSteps.{own_changes}
 use Rattle.shop_version.specs.Overlays.{Layer, IsLayer, open_rows, layer_rows, layer_view, IsOwnChange}
-use Rattle.shop_version.proofs.Layers.{layer_up, open_up, own_all}
+use Rattle.shop_version.proofs.Layers.{own_all}
 
 -- ---- what changes leave at a place
 

@@ -1,9 +1,8 @@
 -- The rows of a version, found by their keys.
-use Rattle.std.proofs.Common.{◌≡◌, ◌++◌, ◌<◌, ◌+◌, ℕ, suc, List, [], ◌∷◌, length, get_or, drop, drop-cons, add-one, append_assoc, refl, sym, ap, subst, ◌∙◌, Option, Some, None}
-use Rattle.std.specs.Prelude.{filter, map, ◌==◌}
-use Rattle.std.specs.List.{AllByRecursion, flat_map}
+use Rattle.std.proofs.Common.{◌≡◌, ◌++◌, ◌<◌, ◌+◌, ℕ, suc, List, [], ◌∷◌, length, get_or, drop, drop-cons, add-one, append_assoc, refl, sym, ap, subst, ◌∙◌, Some}
+use Rattle.std.specs.Prelude.{map, ◌==◌}
+use Rattle.std.specs.List.{AllByRecursion}
 use Rattle.std.specs.Option.{option_to_list}
-use Rattle.keyed.specs.Keyed.{find}
 use Rattle.shop_defs.specs.declared.key.Key.{Key}
 use Rattle.shop_defs.specs.declared.row.Row.{Row}
 use Rattle.shop_defs.specs.Keys.{key_cmp}
@@ -14,7 +13,7 @@ use Rattle.shop_write.proofs.InOrder.{all_found, all_filter, ascends_filter}
 use Rattle.shop_version.specs.Overlays.{rows_at}
 
 -- rows that are found are found by their keys
-found_rows : (rows some : List Row) → AllByRecursion (λ row. row_at rows row.key ≡ Some row) some → rows_at rows (map row_key some) ≡ some
+pub found_rows : (rows some : List Row) → AllByRecursion (λ row. row_at rows row.key ≡ Some row) some → rows_at rows (map row_key some) ≡ some
 found_rows rows [] all = refl
 found_rows rows (row ∷ rest) all = rw all.0 (ap (λ ys. row ∷ ys) (found_rows rows rest all.1))
 

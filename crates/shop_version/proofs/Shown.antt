@@ -1,6 +1,6 @@
 -- The row that a version shows at a place.
-use Rattle.std.proofs.Common.{◌≡◌, ◌≢◌, ℕ, Bool, true, false, List, [], ◌∷◌, refl, sym, ap, ◌∙◌, Option, Some, None, if◌then◌else◌, not}
-use Rattle.std.specs.Prelude.{◌==◌, ◌&&◌, filter, is_none}
+use Rattle.std.proofs.Common.{◌≡◌, ◌≢◌, ℕ, Bool, true, false, List, refl, sym, ap, ◌∙◌, Option, Some, None, if◌then◌else◌, not}
+use Rattle.std.specs.Prelude.{◌==◌, filter}
 use Rattle.std.proofs.lemmas.Bool.{eq-eqb, ne_eqb}
 use Rattle.keyed.specs.Keyed.{find}
 use Rattle.shop_defs.specs.declared.key.Key.{Key}
@@ -9,7 +9,7 @@ use Rattle.shop_defs.specs.Keys.{key_cmp}
 use Rattle.shop_defs.specs.Rows.{row_key, row_at, IsInKeyOrder}
 use Rattle.shop_defs.proofs.Keys.{key_cmp_total}
 use Rattle.shop_operations.specs.References.{live, of_version}
-use Rattle.shop_operations.specs.Upserts.{place_cmp, row_in, with_row}
+use Rattle.shop_operations.specs.Upserts.{place_cmp, row_in}
 use Rattle.shop_rows.proofs.Mentioning.{found_key}
 use Rattle.shop_drafts.specs.Aggregates.{is_part}
 use Rattle.shop_drafts.specs.Drafts.{is_open, over, root_in, shown_rows, shown_by}

@@ -1,12 +1,11 @@
 -- An operation that touches nothing outside what a draft edits leaves the live rows that show.
-use Rattle.std.proofs.Common.{◌≡◌, Bool, true, false, not, inl, inr, List, [], ◌∷◌, refl, sym, ap, subst, ◌∙◌, Option, Some, None, if◌then◌else◌}
-use Rattle.std.specs.Prelude.{◌&&◌, ◌||◌, filter, map, find, is_none, is_some, Result, Ok, Err}
-use Rattle.std.specs.List.{list_any, fold}
+use Rattle.std.proofs.Common.{◌≡◌, Bool, true, false, not, List, [], ◌∷◌, refl, sym, ap, subst, ◌∙◌, Option, Some, None, if◌then◌else◌}
+use Rattle.std.specs.Prelude.{◌&&◌, ◌||◌, filter, find, is_some, Ok}
+use Rattle.std.specs.List.{list_any}
 use Rattle.std.specs.Option.{option_map, option_map_or}
 use Rattle.std.proofs.lemmas.Bool.{and_parts, false≢true, true≢false}
 use Rattle.closure.specs.Closure.{IsIn}
 use Rattle.closure.proofs.Members.{in_filter, of_filter, in_map}
-use Rattle.keyed.specs.Keyed as keyed
 use Rattle.shop_defs.specs.declared.broken.Broken.{Broken}
 use Rattle.shop_defs.specs.declared.key.Key.{Key}
 use Rattle.shop_defs.specs.declared.op.Op.{Op}
@@ -18,7 +17,7 @@ use Rattle.shop_defs.specs.Rows.{row_key}
 use Rattle.shop_operations.specs.Deletes.{stands_at, in_use, goes, gone, kept, emptied, deleted, is_emptied, loses_field}
 use Rattle.shop_operations.specs.Operations.{place, broken_by, operated, by_kind, unless, removed, in_use_by, shown_key}
 use Rattle.shop_operations.specs.Upserts.{place_cmp, row_in, with_row, left}
-use Rattle.shop_operations.specs.Views.{View, IsInPlaceOrder}
+use Rattle.shop_operations.specs.Views.{IsInPlaceOrder}
 use Rattle.shop_soundness.proofs.InOrder.{delete_in_order}
 use Rattle.shop_soundness.proofs.Lefts.{left_place}
 use Rattle.shop_soundness.proofs.Lists.{finds, no_some}

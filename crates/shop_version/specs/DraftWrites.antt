@@ -1,36 +1,24 @@
 -- What the plan of a batch in a draft answers.
-use Rattle.std.specs.Prelude.{◌≡◌, ◌≢◌, ℕ, ◌==◌, ◌++◌, true, not, List, [], ◌∷◌, length, filter, map, find, Option, Some, None, Result, Ok, Err}
-use Rattle.std.specs.List.{AllByRecursion, fold, list_all}
-use Rattle.std.specs.Option.{option_map}
-use Rattle.keyed.specs.Keyed.{put}
-use Rattle.shop_defs.specs.declared.broken.Broken.TheVariants as B
+use Rattle.std.specs.Prelude.{◌≡◌, ◌≢◌, ℕ, true, List, Result, Ok, Err}
+use Rattle.std.specs.List.{list_all}
 use Rattle.shop_defs.specs.declared.delta.Delta.{Delta}
-use Rattle.shop_defs.specs.declared.entity.Entity.{Entity}
-use Rattle.shop_defs.specs.declared.key.Key.{Key}
 use Rattle.shop_defs.specs.declared.op.Op.{Op}
 use Rattle.shop_defs.specs.declared.refused.PlanFault.{PlanFault}
 use Rattle.shop_defs.specs.declared.refused.PlanFault.TheVariants as F
-use Rattle.shop_defs.specs.declared.refused.Refused.{Refused}
 use Rattle.shop_defs.specs.declared.row.Row.{Row}
 use Rattle.shop_defs.specs.Fitting.{row_key_fits}
-use Rattle.shop_defs.specs.Joined.{Change, all_changes}
-use Rattle.shop_defs.specs.Rows.{row_key, change_rows}
+use Rattle.shop_defs.specs.Joined.{Change}
+use Rattle.shop_defs.specs.Rows.{change_rows}
 use Rattle.shop_requests.specs.declared.raw.RawOp.{RawOp}
-use Rattle.shop_requests.specs.Operations.{reading}
-use Rattle.shop_operations.specs.Operations.{place, operated, shown_key}
 use Rattle.shop_operations.specs.References.{of_version}
-use Rattle.shop_operations.specs.Upserts.{row_in}
-use Rattle.shop_operations.specs.Views.{View}
 use Rattle.shop_rows.specs.Changing.{StandUnderTheirKeys, HasAscendingKeys}
 use Rattle.shop_soundness.specs.Batches.{batch}
 use Rattle.shop_write.specs.Writes.{TakesUpsert}
-use Rattle.shop_drafts.specs.Aggregates.{is_part}
 use Rattle.shop_drafts.specs.Drafts.{draft_view}
 use Rattle.shop_drafts.specs.Laws.{OthersShowTheSame}
 use Rattle.shop_drafts.specs.Making.{dropped}
-use Rattle.shop_drafts.specs.Writing.{done_in, unless_not_versioned, not_versioned, draft_write}
+use Rattle.shop_drafts.specs.Writing.{draft_write}
 use Rattle.shop_drafts.specs.declared.aggregate.Root.{Root}
-use Rattle.shop_version.specs.Overlays.{Layer, layer_rows, layer_view, open_rows, IsOwnChange}
 
 -- each key is of its entity's form
 abbrev pub AreFormed : List Row → Type 0

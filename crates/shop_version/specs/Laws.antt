@@ -1,15 +1,30 @@
 -- What the plans of drafts leave, in words.
-use Rattle.std.specs.Prelude.{◌≡◌, ℕ, List, [], filter, Result, Ok, Err}
+use Rattle.std.specs.Prelude.{◌≡◌, ◌≢◌, ◌≤◌, ℕ, List, [], filter, length, Result, Ok, Err}
 use Rattle.shop_defs.specs.declared.delta.Delta.{Delta}
 use Rattle.shop_defs.specs.declared.refused.PlanFault.{PlanFault}
 use Rattle.shop_defs.specs.declared.row.Row.{Row}
 use Rattle.shop_defs.specs.Rows.{change_rows}
 use Rattle.shop_operations.specs.References.{live}
+use Rattle.shop_operations.specs.Soundness.{IsCoherent}
 use Rattle.shop_operations.specs.Views.{live_view, drafted}
-use Rattle.shop_soundness.specs.WellFormed.{unwritten}
+use Rattle.shop_requests.specs.declared.raw.RawOp.{RawOp}
+use Rattle.shop_soundness.specs.Batches.{live_batch}
+use Rattle.shop_soundness.specs.WellFormed.{AreWellFormed, unwritten}
 use Rattle.shop_drafts.specs.Laws.{OthersShowTheSame}
-use Rattle.shop_drafts.specs.Making.{dropped, is_of_draft}
-use Rattle.shop_drafts.specs.Merging.{log, replayed}
+use Rattle.shop_drafts.specs.Making.{drop_draft, dropped, is_of_draft, make_draft}
+use Rattle.shop_drafts.specs.Merging.{log, merge, replayed, with_live}
+use Rattle.shop_drafts.specs.Soundness.{AreDrafted}
+use Rattle.shop_drafts.specs.Writing.{draft_write}
+use Rattle.shop_write.specs.BatchPlans.{HaveIds}
+
+-- after making
+pub record MakeLeaves (before after : List Row) (version : ℕ) : Type 0 where
+  -- but for the draft, all rows are as they were
+  pub rest : dropped after version ≡ before
+  -- live and all other drafts show what they did
+  pub shows : OthersShowTheSame version before after
+  -- merging it at once would change nothing
+  pub at_once : merge after version ≡ Ok before
 
 -- after a merge
 pub record MergeLeaves (before after : List Row) (version : ℕ) : Type 0 where
@@ -41,3 +56,23 @@ LeavesMerge rows version (Err fault) = Unit {0}
 abbrev pub LeavesDrop : List Row → ℕ → Result Delta PlanFault → Type 0
 LeavesDrop rows version (Ok delta) = DropLeaves rows (change_rows rows delta.changes) version
 LeavesDrop rows version (Err fault) = Unit {0}
+
+-- what the changes of making leave
+abbrev pub LeavesMake : List Row → ℕ → Result Delta PlanFault → Type 0
+LeavesMake rows version (Ok delta) = MakeLeaves rows (change_rows rows delta.changes) version
+LeavesMake rows version (Err fault) = Unit {0}
+
+-- Whatever is done leaves rows with drafts that can be worked on: a draft is made, a batch is done in it, it is dropped or
+-- merged, or a batch is done on the live rows.
+pub record StayDrafted : Type 0 where
+  pub making : (rows after : List Row) (version : ℕ) (name : List ℕ) (id : ℕ) → AreDrafted rows → version ≢ 0 → make_draft rows version name id ≡ Ok after → AreDrafted after
+  pub writing : (rows after : List Row) (version : ℕ) (ops : List RawOp) → AreDrafted rows → version ≢ 0 → length ops ≤ 1000 → HaveIds ops → draft_write rows version ops ≡ Ok after → AreDrafted after
+  pub dropping : (rows after : List Row) (version : ℕ) → AreDrafted rows → version ≢ 0 → drop_draft rows version ≡ Ok after → AreDrafted after
+  pub merging : (rows after : List Row) (version : ℕ) → AreDrafted rows → IsCoherent (live_view rows) → version ≢ 0 → merge rows version ≡ Ok after → AreDrafted after
+  pub live_batches : (rows now : List Row) (ops : List RawOp) → AreDrafted rows → IsCoherent (live_view rows) → AreWellFormed (live rows) → HaveIds ops → live_batch rows ops ≡ Ok now → AreDrafted (with_live rows now)
+
+-- and live rows that fit one another
+pub record StayCoherent : Type 0 where
+  pub making : (rows after : List Row) (version : ℕ) (name : List ℕ) (id : ℕ) → AreDrafted rows → IsCoherent (live_view rows) → version ≢ 0 → make_draft rows version name id ≡ Ok after → IsCoherent (live_view after)
+  pub dropping : (rows after : List Row) (version : ℕ) → AreDrafted rows → IsCoherent (live_view rows) → version ≢ 0 → drop_draft rows version ≡ Ok after → IsCoherent (live_view after)
+  pub merging : (rows after : List Row) (version : ℕ) → AreDrafted rows → IsCoherent (live_view rows) → version ≢ 0 → merge rows version ≡ Ok after → IsCoherent (live_view after)

@@ -1,10 +1,9 @@
 -- What a draft shows while a batch changes it. No public contract cites this.
-use Rattle.std.specs.Prelude.{◌≡◌, ◌≢◌, ◌&&◌, ℕ, Bool, false, true, if◌then◌else◌, List, [], ◌∷◌, filter, Option, Some, None}
+use Rattle.std.specs.Prelude.{◌≡◌, ◌≢◌, ◌&&◌, ℕ, Bool, false, if◌then◌else◌, List, [], ◌∷◌, filter, Option, Some, None}
 use Rattle.std.specs.List.{fold, flat_map}
 use Rattle.std.specs.Option.{option_map_or, option_to_list}
 use Rattle.std.specs.Ordering.{match_ordering}
 use Rattle.keyed.specs.Keyed.{put}
-use Rattle.shop_defs.specs.declared.entity.Entity.{Entity}
 use Rattle.shop_defs.specs.declared.key.Key.{Key}
 use Rattle.shop_defs.specs.declared.row.Row.{Row}
 use Rattle.shop_defs.specs.Rows.{row_at, IsInKeyOrder}

@@ -1,13 +1,16 @@
 -- What the plans of making, dropping and merging drafts answer.
-use Rattle.std.specs.Prelude.{◌≡◌, ℕ, List, Result, Ok, Err}
+use Rattle.std.specs.Prelude.{◌≡◌, ◌+◌, ℕ, List, length, Option, Some, None, Result, Ok, Err}
 use Rattle.shop_defs.specs.declared.broken.Broken.{Broken}
 use Rattle.shop_defs.specs.declared.delta.Delta.{Delta}
+use Rattle.shop_defs.specs.declared.entity.Entity.{Entity}
 use Rattle.shop_defs.specs.declared.refused.PlanFault.{PlanFault}
 use Rattle.shop_defs.specs.declared.refused.PlanFault.TheVariants as F
 use Rattle.shop_defs.specs.declared.row.Row.{Row}
 use Rattle.shop_defs.specs.Joined.{Change}
 use Rattle.shop_defs.specs.Rows.{change_rows}
+use Rattle.shop_defs.specs.Tables.{entity_named}
 use Rattle.shop_rows.specs.Changing.{StandUnderTheirKeys, HasAscendingKeys}
+use Rattle.shop_drafts.specs.Making.{copied_count}
 use Rattle.shop_drafts.specs.Merging.{merge, merged_count}
 
 -- the changes make of the rows what is to come of them; their keys ascend, and each row stands under its key
@@ -30,3 +33,13 @@ Plans rows outcome (Err fault) = IsFaultOf outcome fault
 abbrev pub PlansMerge : List Row → ℕ → Result (Delta × ℕ) PlanFault → Type 0
 PlansMerge rows version (Ok plan) = IsPlanOf rows (merge rows version) plan.0.changes × (plan.1 ≡ merged_count rows version)
 PlansMerge rows version (Err fault) = IsFaultOf (merge rows version) fault
+
+-- how many rows are copied where a draft is made of the row of that entity, if it is one, with that id
+abbrev pub copies_of : List Row → ℕ → ℕ → Option Entity → ℕ
+copies_of rows version id None = 0
+copies_of rows version id (Some entity) = copied_count rows version (record { entity = entity; id = id })
+
+-- the changes are one for each copied row, and one more
+abbrev pub TellsCopies : List Row → ℕ → List ℕ → ℕ → Result Delta PlanFault → Type 0
+TellsCopies rows version name id (Ok delta) = length delta.changes ≡ copies_of rows version id (entity_named name) + 1
+TellsCopies rows version name id (Err fault) = Unit {0}

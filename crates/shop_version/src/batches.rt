@@ -12,14 +12,14 @@ ghost use Rattle.shop_version.specs.DraftWrites.{AreFormed, PlansWrite, WriteLea
 ghost use Rattle.shop_version.specs.Overlays.{layer_rows, layer_view};
 ghost use Rattle.shop_write.specs.BatchPlans.{HaveIds};
 
-use crate::drafts::{commit_count, commit_key, draft_of, root_of};
+use crate::drafts::{commit_count, draft_of};
 use crate::overlay::Overlay;
 use crate::writing::{Step, do_numbered};
 use shop_defs::{
     Broken, Copied, Delta, Entity, Key, List, MOST_ROWS, NoMemory, Op, OpKind, PlanFault, Refused,
     Row, Value, join_deltas,
 };
-use shop_drafts::{COMMITS, COUNT, Root, has_versions};
+use shop_drafts::{COMMITS, COUNT, Root, commit_key, has_versions, root_of};
 use shop_operations::given_to;
 use shop_requests::{RawOp, read_op};
 use shop_rows::Rows;

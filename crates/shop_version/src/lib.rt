@@ -1,15 +1,19 @@
-//! Drafts over the rows of a shop: how what they show is found by look-ups, and what a batch in a
-//! draft, dropping and merging it change.
+//! Drafts over the rows of a shop: how what they show is found by look-ups, and what making a draft, a
+//! batch in it, dropping and merging it change.
 //!
 //! # What is promised
 //!
-//! - `draft_of`, `root_of`, `commit_count` and `own_keys` find what keeps a draft: its row, what it is
-//!   made of, how many commits it has, the keys of the rows of its version. They ask for rows that can
-//!   be worked on (`AreDrafted` of `shop_drafts`) where they say so.
+//! - `draft_of`, `commit_count` and `own_keys` find what keeps a draft: its row, how many commits it
+//!   has, the keys of the rows of its version. They ask for rows that can be worked on (`AreDrafted` of
+//!   `shop_drafts`) where they say so.
 //! - `overlay_get` lends the row that a version shows at a place: the row at it in `shown_rows` of
 //!   `shop_drafts`, and takes no memory.
 //! - `law_of_what_drafts_show`: over rows whose keys are of their entities' forms, what a draft shows
 //!   is what an operation asks of a view.
+//! - `plan_draft` answers the changes of making a draft, one for each copied row and one more
+//!   (`TellsCopies`), or the first rule that is broken, both ways (`Plans`, over `make_draft`). They leave
+//!   all other rows, and what live and each other draft show; and merging the draft at once would change
+//!   nothing (`LeavesMake`).
 //! - `plan_drop` answers the changes of a drop, or that there is no such draft, both ways (`Plans`,
 //!   over `drop_draft`). They leave all rows that aren't of the draft, and what live and all other
 //!   drafts show (`LeavesDrop`).
@@ -22,6 +26,9 @@
 //!   `draft_write`, or it answers the first refusal (`PlansWrite`), both ways. In words: all rows that
 //!   aren't of the draft stay, and so does what live and each other draft show (`WriteLeavesOthers`);
 //!   the draft's rows are those that the same operations leave of what it shows (`WriteIsBatch`).
+//! - `law_of_drafted_rows`: making, writing, dropping and merging a draft leave rows that can be worked
+//!   on, and so does a batch on the live rows. `law_of_coherent_rows`: making, dropping and merging one
+//!   leave live rows that fit one another.
 //! - They cost in proportion to the draft, its operations and what these change: that is how they are
 //!   written, and no clause speaks of it.
 #![tactic(auto)]
@@ -30,6 +37,8 @@ mod batches;
 mod drafts;
 mod dropping;
 mod joining;
+mod laws;
+mod making;
 mod merging;
 mod overlay;
 mod showing;
@@ -37,7 +46,9 @@ mod touching;
 mod writing;
 
 pub use batches::plan_draft_write;
-pub use drafts::{commit_count, commit_key, draft_key, draft_of, own_keys, root_of};
+pub use drafts::{commit_count, draft_of, own_keys};
 pub use dropping::plan_drop;
+pub use laws::{law_of_coherent_rows, law_of_drafted_rows};
+pub use making::plan_draft;
 pub use merging::plan_merge;
 pub use showing::{law_of_what_drafts_show, overlay_get};

@@ -13,9 +13,10 @@ ghost use Rattle.shop_version.specs.Plans.{PlansMerge, IsFaultOf};
 ghost use Rattle.shop_version.specs.Replaying.{IsCommitOf, IsFaultAt, IsMergeFault, IsReplayFault, IsReplayable, IsReplayed};
 ghost use Rattle.shop_write.specs.Growth.{grown, grown_view};
 
-use crate::drafts::{commit_count, commit_key, draft_of};
+use crate::drafts::{commit_count, draft_of};
 use crate::dropping::{losses, refused};
 use shop_defs::{Broken, Delta, Op, PlanFault, Row, join_deltas};
+use shop_drafts::commit_key;
 use shop_rows::Rows;
 use shop_write::Growing;
 use sqlite_items::Boxed;

@@ -181,7 +181,7 @@ impl<'a> View for Overlay<'a> {
 }
 
 /// How many rows of the entity there are: fewer than half of what a number of places holds.
-fn small_count(rows: &Rows, entity: Entity) -> usize
+pub(crate) fn small_count(rows: &Rows, entity: Entity) -> usize
     ensures count { result ≡ count_rows rows.now.list entity }
     ensures small { result < 2 ^ 63 }
 {
@@ -285,7 +285,7 @@ fn own_rows(alloc: Global, rows: &Rows, version: u128) -> Result<Rows, NoMemory>
 }
 
 /// Copies of the rows at the keys.
-fn copies_at(alloc: Global, rows: &Rows, keys: &[Key]) -> Result<Vec<Row>, NoMemory>
+pub(crate) fn copies_at(alloc: Global, rows: &Rows, keys: &[Key]) -> Result<Vec<Row>, NoMemory>
     ensures { IfOk result (λ copies. copies.items ≡ spec.rows_at rows.now.list keys.now) }
 {
     let mut copies = Vec::new(alloc);

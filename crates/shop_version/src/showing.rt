@@ -8,10 +8,10 @@ ghost use Rattle.shop_drafts.specs.Drafts as spec;
 ghost use Rattle.shop_version.specs.DraftWrites.{DraftsTakeUpserts};
 ghost use Rattle.shop_version.specs.Overlays.{at_version_key, guarded};
 
-use crate::drafts::{draft_of, root_of};
+use crate::drafts::draft_of;
 use crate::joining::key_at;
 use shop_defs::{Key, Row};
-use shop_drafts::{Root, is_part};
+use shop_drafts::{Root, is_part, root_of};
 use shop_rows::Rows;
 
 /// The row that the version shows at the key's place, whatever version the key has: `None` where none

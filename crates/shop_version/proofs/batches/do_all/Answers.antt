@@ -1,5 +1,5 @@
-use Rattle.std.proofs.Common.{refl, sym, ap, subst, ◌∙◌, drop, ◌+◌}
-use Rattle.shop_version.proofs.DraftBatches.{step_at, fault_at, read_at, done_more, read_done}
+use Rattle.std.proofs.Common.{sym, ◌∙◌}
+use Rattle.shop_version.proofs.DraftBatches.{step_at, read_at, done_more, read_done}
 use Rattle.shop_version.proofs.batches.do_all.Goals as goal
 
 pub loop-place-preserved : goal.loop-place-preserved

@@ -1,4 +1,4 @@
-use Rattle.std.proofs.Common.{◌≡◌, ap, arith, length}
+use Rattle.std.proofs.Common.{arith, length}
 use Rattle.shop_drafts.specs.Drafts.{commits}
 use Rattle.shop_version.proofs.CommitRows.{few, counted, small}
 use Rattle.shop_version.proofs.batches.next_number.Goals as goal

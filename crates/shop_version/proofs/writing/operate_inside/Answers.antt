@@ -1,6 +1,6 @@
 use Rattle.std.proofs.Common.{sym, ap, ◌∙◌, Ok}
 use Rattle.shop_version.specs.Overlays.{open_rows}
-use Rattle.shop_version.proofs.DraftBatches.{takes, inside_is, inside_fault, own_plan, versions_of, stand_of}
+use Rattle.shop_version.proofs.DraftBatches.{takes, inside_is, own_plan, versions_of, stand_of}
 use Rattle.shop_version.proofs.writing.operate_inside.Goals as goal
 
 pub plan_op-requires-clause-takes : goal.plan_op-requires-clause-takes

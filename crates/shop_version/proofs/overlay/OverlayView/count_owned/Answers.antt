@@ -1,5 +1,4 @@
-use Rattle.std.proofs.Common.{ap, ◌∙◌}
-use Rattle.shop_rows.specs.Owners.{belongs, count_owned}
+use Rattle.shop_rows.specs.Owners.{belongs}
 use Rattle.shop_version.proofs.Layers.{counted_as}
 use Rattle.shop_version.proofs.overlay.OverlayView.count_owned.Goals as goal
 
