@@ -1,0 +1,17 @@
+pub mod Found
+pub mod Bounds
+pub mod Sorted
+pub mod Lines
+pub mod Wanted
+pub mod Plans
+pub mod Totals
+pub mod Stocked
+pub mod Stepped
+pub mod Placed
+pub mod FieldNumbers
+pub mod Worked
+pub mod PlacedStock
+pub mod Kept
+pub mod PlacedHolds
+pub mod PlacedKept
+pub mod CartGone

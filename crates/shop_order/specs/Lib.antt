@@ -1,0 +1,15 @@
+pub mod Keys
+pub mod Plans
+pub mod Checked
+pub mod Stock
+pub mod Adjusting
+pub mod Wants
+pub mod States
+pub mod Steps
+pub mod Held
+pub mod Parts
+pub mod OrderRows
+pub mod Placing
+pub mod Looking
+pub mod FieldNumbers
+pub mod WorkedRows
