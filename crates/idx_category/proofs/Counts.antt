@@ -14,7 +14,7 @@ use Rattle.shop_rows.proofs.Same.{is_equal, key_is}
 use Rattle.shop_rows.proofs.SameLists.{same_lists, its, holds}
 
 -- a key that equals one below all rows is not among them
-none_above : (low key : Key) (rows : List Row) → AllByRecursion (λ row. key_cmp low (row_key row) ≡ Less) rows → key_cmp low key ≡ Equal → row_at rows key ≡ None
+pub none_above : (low key : Key) (rows : List Row) → AllByRecursion (λ row. key_cmp low (row_key row) ≡ Less) rows → key_cmp low key ≡ Equal → row_at rows key ≡ None
 none_above low key [] above same = refl
 none_above low key (row ∷ rows) above same =
     let greater : key_cmp row.key key ≡ Greater = key_cmp_total.antisymm row.key key ∙ ap ordering_reverse (sym (key_cmp_total.congr low key row.key same) ∙ above.0) in

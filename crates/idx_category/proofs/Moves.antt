@@ -280,7 +280,7 @@ module _ (before : List Row) (changes : List Change) (was : AreOrderly before) (
       by (inr c) = each c (is_moved before after key) (is_category key) refl refl
 
   -- a category that wasn't moved and is below none that was has the path that it had
-  same_path : (id : ℕ) → meets (above after) (moved before after changes) 32 id ≡ false → path before id ≡ path after id
+  pub same_path : (id : ℕ) → meets (above after) (moved before after changes) 32 id ≡ false → path before id ≡ path after id
   same_path id off =
       sym (enough before was 32 id (omega arith))
       ∙ (same_walk (above before) (above after) (moved before after changes) (λ at h. same_above _ _ (still (live_key E.Category at) refl h)) 32 id off

@@ -11,6 +11,8 @@
 //!   category stands elsewhere afterwards is proved of the definitions (`proofs/Moves.antt`).
 //! - `path`, `level` and `child_count` lend or copy what stands there, take no memory, and are `None`
 //!   exactly where there is no such live category. `copy` gives the same index.
+//! - `category_path` is one path, by look-ups; `moved_and_below` are the categories outside which no
+//!   path is another after a delta. Other indexes are made of them.
 //! - The rows are in order and their live ones coherent, so that a walk up needs no more steps than a
 //!   category has levels. Want of memory is the only error. After one from `apply` the index is only
 //!   fit to be dropped.
@@ -23,3 +25,5 @@ mod place;
 mod touched;
 
 pub use index::PathIndex;
+pub use place::category_path;
+pub use touched::moved_and_below;

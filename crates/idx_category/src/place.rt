@@ -59,9 +59,10 @@ fn add_path(
     }
 }
 
-/// The ids above a category, from the root to its parent.
+/// The ids of the categories above one, from the root to its parent, by look-ups. Want of memory is
+/// the only error.
 #[tactic(auto, using(crate::proofs::Steps::as_path))]
-fn path(alloc: Global, rows: &Rows, id: u128) -> Result<List<u128>, NoMemory>
+pub fn category_path(alloc: Global, rows: &Rows, id: u128) -> Result<List<u128>, NoMemory>
     requires { live.AreOrderly rows.now.list }
     ensures { IfOk result (λ path. path ≡ spec.path rows.now.list id) }
 {
@@ -82,7 +83,7 @@ pub(crate) fn find_standing(
     if rows.get(&category_key(id)).is_none() {
         return Ok(None);
     }
-    let path = path(alloc, rows, id)?;
+    let path = category_path(alloc, rows, id)?;
     let level = level_below(&path);
     Ok(Some(Standing {
         path,

@@ -16,7 +16,7 @@ use Rattle.shop_meanings.specs.Direct.{Meant, tree, IsDirect}
 
 -- where the categories of such rows stand
 pub record PathsGoUp (rows : List Row) : Type 0 where
-  -- there is no path to a root
+  -- nothing stands above a root: its path is empty
   pub root : (id : ℕ) → above rows id ≡ None → path rows id ≡ []
   -- any other path is the parent's, with the parent at its end
   pub below : (id parent : ℕ) → above rows id ≡ Some parent → path rows id ≡ path rows parent ++ parent ∷ []

@@ -1,0 +1,3 @@
+pub mod FieldNumbers
+pub mod Repriced
+pub mod Counts

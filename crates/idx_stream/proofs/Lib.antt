@@ -1,0 +1,4 @@
+pub mod FieldNumbers
+pub mod Same
+pub mod FoundFilters
+pub mod Belonging

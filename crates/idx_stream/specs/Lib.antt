@@ -1,0 +1,2 @@
+pub mod Affecting
+pub mod Reading
