@@ -1,5 +1,8 @@
 //! What questions are answered.
-use shop_defs::Broken;
+ghost use Rattle.std.specs.Prelude.{◌≡◌};
+ghost use Rattle.idx_copy.specs.declared.answer.AskFault.TheVariants as asking;
+
+use shop_defs::{Broken, NoMemory};
 
 /// What a question is answered, lent by the tables.
 #[derive(Drop)]
@@ -15,11 +18,19 @@ pub enum Answer<'a> {
     },
 }
 
-/// Why a question isn't answered.
+/// Why a question isn't answered, or a row not shown.
 #[derive(Drop)]
 pub enum AskFault {
-    /// It breaks a rule: the row that it names isn't there.
+    /// It breaks a rule: of a question, that the row which it names isn't there.
     Refused(Broken),
     /// Memory was refused.
     NoMemory,
+}
+
+impl From<NoMemory> for AskFault {
+    ghost from_gives = { λ _ fault. fault ≡ asking.NoMemory };
+
+    fn from(_: NoMemory) -> AskFault {
+        AskFault::NoMemory
+    }
 }

@@ -86,7 +86,15 @@ impl Queue {
         self.pending.len()
     }
 
-    /// The published copy. Want of memory is the only error.
+    /// The published copy, lent. It takes no memory.
+    pub fn copy(&self) -> &IndexCopy
+        ensures copy { result.now ≡ self.now.copy }
+        ensures queue { IsQueue self.now.copy self.now.pending }
+    {
+        &self.copy
+    }
+
+    /// The published copy, shared. Want of memory is the only error.
     pub fn published(&self) -> Result<Arc<IndexCopy>, NoMemory>
         ensures copy { IfOk result (λ copy. arc_value copy ≡ self.now.copy) }
         ensures queue { IsQueue self.now.copy self.now.pending }

@@ -7,3 +7,4 @@ pub mod RowReplies
 pub mod Refusals
 pub mod Faults
 pub mod Fronts
+pub mod Trees

@@ -5,7 +5,7 @@
 //!
 //! - Each body is exactly the compact text of a JSON value: `done_text`, `row_text`, `seen_text`
 //!   and `rows_text` (which print rows where they stand, into memory that is handed in),
-//!   `front_text`, `front_unknown_text`, `refusal_text` and `fault_text`.
+//!   `front_text`, `front_unknown_text`, `tree_text`, `missing_text`, `refusal_text` and `fault_text`.
 //! - `refusal_status` and `fault_status` are the statuses. A printed day reads as that day.
 #![tactic(auto)]
 
@@ -18,9 +18,11 @@ mod keys;
 mod order;
 mod refusal;
 mod row;
+mod tree;
 
 pub use done::done_text;
 pub use fault::{fault_status, fault_text};
 pub use front::{front_text, front_unknown_text};
 pub use refusal::{refusal_status, refusal_text};
 pub use row::{row_text, rows_text, seen_text};
+pub use tree::{missing_text, tree_text};

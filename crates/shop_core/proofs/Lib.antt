@@ -13,3 +13,5 @@ pub mod Listed
 pub mod ReadWords
 pub mod SoundCarts
 pub mod NameTexts
+pub mod Publishes
+pub mod Meanings

@@ -11,8 +11,8 @@ use Rattle.shop_requests.specs.declared.query.RowRead.{RowRead}
 use Rattle.shop_defs.specs.Rows.{row_at}
 use Rattle.shop_defs.specs.Tables.{info_named}
 use Rattle.shop_requests.specs.Operations.{or_else, wrong_second}
-use Rattle.shop_core.specs.declared.answers.AskFault.{AskFault}
-use Rattle.shop_core.specs.declared.answers.AskFault.TheVariants as asking
+use Rattle.idx_copy.specs.declared.answer.AskFault.{AskFault}
+use Rattle.idx_copy.specs.declared.answer.AskFault.TheVariants as asking
 use Rattle.shop_core.specs.declared.answers.RowReply.{RowReply}
 use Rattle.shop_core.specs.declared.answers.RowSeen.{RowSeen}
 use Rattle.shop_core.specs.Requests.{Shows, asked_key, draft_key, is_known, read_in, reading, row_with, unless_broken, unknown_version}

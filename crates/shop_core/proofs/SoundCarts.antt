@@ -1,5 +1,5 @@
 -- Sound rows are all that is relied on where a cart is settled, and what is read of a cart is its answer.
-use Rattle.std.proofs.Common.{ℕ, ℤ, ◌&&◌, List, [], ◌∷◌, Result, Ok, Err, refl, sym, ap, ◌∙◌}
+use Rattle.std.proofs.Common.{ℕ, ℤ, ◌&&◌, List, [], ◌∷◌, Result, Ok, Err, refl, sym, ap, ◌∙◌, subst}
 use Rattle.std.specs.List.{AllByRecursion, list_all}
 use Rattle.std.proofs.lemmas.Bool.{and_parts}
 use Rattle.shop_defs.specs.declared.broken.Broken.{Broken}
@@ -17,7 +17,8 @@ use Rattle.shop_check.specs.Soundness.{IsSoundRow}
 use Rattle.shop_core.specs.declared.answers.Reply.{Reply}
 use Rattle.shop_core.specs.declared.answers.Reply.TheVariants as replies
 use Rattle.shop_core.specs.Carts.{ReadsCart, SoundRowsAreCartRows}
-use Rattle.shop_core.specs.Requests.{IsRead, answered, cart_answer, not_settled}
+use Rattle.shop_core.specs.Requests.{IsRead, IsReadCaughtUp, answered, cart_answer, not_settled}
+use Rattle.shop_core.specs.Publishing.{CatchesUp}
 use Rattle.shop_core.specs.Shops.{ShopView}
 
 row_is : (row : Row) → IsSoundRow row → IsRowOf row.key.entity row
@@ -56,3 +57,15 @@ pub shows_none : (shop : ShopView) (cart : ℕ) (moment : ℤ) (fault : CartRefu
 shows_none shop cart moment carts.NoSuchCart r = (ap (answered (λ settled. replies.Cart shop.number settled)) r, refl, refl)
 shows_none shop cart moment carts.Unstable r = (ap (answered (λ settled. replies.Cart shop.number settled)) r, refl, refl)
 shows_none shop cart moment carts.NoMemory r = refl
+
+caught_read : (old now : ShopView) (reply : Reply) (shown : Result Reply Broken) → CatchesUp old now → IsRead now reply shown now → IsReadCaughtUp old reply shown now
+caught_read old now (replies.Refused rule) shown caught read = (read.0, read.1, caught)
+caught_read old now replies.NoMemory shown caught read = caught.only
+caught_read old now reply shown caught read = (read.0, caught)
+
+-- what is read once the shop has caught up
+pub read_after : (old now : ShopView) (reply : Reply) (cart : ℕ) (moment : ℤ) → CatchesUp old now → IsRead now reply (cart_answer now.rows now.number cart moment) now
+    → IsReadCaughtUp old reply (cart_answer old.rows old.number cart moment) now
+read_after old now reply cart moment caught read =
+    caught_read old now reply (cart_answer old.rows old.number cart moment) caught
+    (subst (λ (shown : Result Reply Broken). IsRead now reply shown now) (λ i. cart_answer (caught.only.rows i) (caught.only.number i) cart moment) read)

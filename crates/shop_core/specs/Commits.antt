@@ -1,5 +1,5 @@
 -- What a commit answers and leaves, and what many of them do.
-use Rattle.std.specs.Prelude.{ℕ, ℤ, ◌≡◌, ◌+◌, ◌-◌, ◌≤◌, ◌<◌, ◌^◌, Bool, true, false, List, [], ◌∷◌, map, filter, length, is_some, Result, Ok, Err, OnErr}
+use Rattle.std.specs.Prelude.{ℕ, ℤ, ◌≡◌, ◌+◌, ◌-◌, ◌≤◌, ◌<◌, ◌^◌, ◌⊎◌, Bool, true, false, List, [], ◌∷◌, map, filter, length, is_some, Result, Ok, Err, OnErr}
 use Rattle.shop_requests.specs.declared.command.Command.{Command}
 use Rattle.shop_outside.specs.Causes.{Rose}
 use Rattle.shop_core.specs.declared.answers.Done.{Done}
@@ -9,6 +9,7 @@ use Rattle.shop_core.specs.Steps.{step, accepted, refused, IsAccepted}
 use Rattle.shop_core.specs.declared.answers.Entry.{Entry}
 use Rattle.shop_core.specs.History.{State, replay, IsLegal}
 use Rattle.shop_core.specs.Shops.{ShopView, state_of}
+use Rattle.shop_core.specs.Publishing.{StaysPublished, MakesRoom, AddsOne}
 
 -- How an answer fits the step, and what it leaves of the rows and the number. Only want of memory comes at any step.
 abbrev pub Steps : State → Command → ℤ → Result Done CommitFault → State → Type 0
@@ -27,12 +28,31 @@ HasStoreCause before now (Err (faults.Refused rule)) = now ≡ before
 HasStoreCause before now (Err faults.StoreFailed) = (before ≤ now) × Rose before now
 HasStoreCause before now (Err faults.NoMemory) = now ≡ before
 
+-- an accepted command puts its delta behind those that are pending, and any other answer leaves what is pending
+abbrev pub Adds : ShopView → Result Done CommitFault → ShopView → Type 0
+Adds old (Ok done) now = AddsOne old now
+Adds old (Err fault) now = StaysPublished old now
+
+-- what a command leaves that is looked at, by its answer
+pub record CarriesOut (old : ShopView) (command : Command) (moment : ℤ) (result : Result Done CommitFault) (now : ShopView) : Type 0 where
+  pub answer : Steps (state_of old) command moment result (state_of now)
+  pub cause : HasStoreCause old.faults now.faults result
+  pub content : OnErr result (now.content ≡ old.content)  -- an error leaves what the keeper holds
+  pub told : is_some now.content ≡ is_some old.content  -- a keeper that tells goes on to tell
+  pub adds : Adds old result now
+
+-- What is published and pending after a commit: room is made before the command is looked at, unless memory runs out for that.
+abbrev pub Publishes : ShopView → Result Done CommitFault → ShopView → Type 0
+Publishes old (Err faults.NoMemory) now = StaysPublished old now ⊎ ((ready : ShopView) × MakesRoom old ready × StaysPublished ready now)
+Publishes old result now = (ready : ShopView) × MakesRoom old ready × Adds ready result now
+
 -- what a commit leaves, by its answer
 pub record Commits (old : ShopView) (command : Command) (moment : ℤ) (result : Result Done CommitFault) (now : ShopView) : Type 0 where
   pub answer : Steps (state_of old) command moment result (state_of now)
   pub cause : HasStoreCause old.faults now.faults result
   pub content : OnErr result (now.content ≡ old.content)  -- an error leaves what the keeper holds
   pub told : is_some now.content ≡ is_some old.content  -- a keeper that tells goes on to tell
+  pub publishes : Publishes old result now
 
 -- ---- many commits
 

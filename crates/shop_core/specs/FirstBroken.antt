@@ -8,8 +8,8 @@ use Rattle.shop_requests.specs.declared.query.RowRead.{RowRead}
 use Rattle.shop_defs.specs.Rows.{row_at}
 use Rattle.shop_defs.specs.Tables.{info_named}
 use Rattle.shop_requests.specs.Operations.{wrong_second}
-use Rattle.shop_core.specs.declared.answers.AskFault.{AskFault}
-use Rattle.shop_core.specs.declared.answers.AskFault.TheVariants as asking
+use Rattle.idx_copy.specs.declared.answer.AskFault.{AskFault}
+use Rattle.idx_copy.specs.declared.answer.AskFault.TheVariants as asking
 use Rattle.shop_core.specs.Requests.{asked_key, draft_key}
 
 -- the key has its second part exactly where the entity's keys have two

@@ -2,10 +2,12 @@ pub mod Steps
 pub mod Ranges
 pub mod History
 pub mod Shops
+pub mod Publishing
 pub mod Plans
 pub mod Commits
 pub mod Opening
 pub mod Carts
+pub mod Indexed
 pub mod Requests
 pub mod Seeing
 pub mod FirstBroken

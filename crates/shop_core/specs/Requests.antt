@@ -1,5 +1,5 @@
 -- What reads show, and how one request is answered.
-use Rattle.std.specs.Prelude.{ℕ, ℤ, ◌≡◌, ◌==◌, ◌&&◌, ◌||◌, Bool, List, [], map, filter, take, Option, Some, None, is_some, if◌then◌else◌, Result, Ok, Err}
+use Rattle.std.specs.Prelude.{ℕ, ℤ, ◌≡◌, ◌==◌, ◌&&◌, ◌||◌, ◌⊎◌, Bool, List, [], map, filter, take, Option, Some, None, is_some, if◌then◌else◌, Result, Ok, Err}
 use Rattle.std.specs.Option.{option_map}
 use Rattle.std.specs.Ordering.{is_lt}
 use Rattle.shop_defs.specs.declared.broken.Broken.{Broken}
@@ -7,6 +7,7 @@ use Rattle.shop_defs.specs.declared.broken.Broken.TheVariants as B
 use Rattle.shop_defs.specs.declared.entity.Entity.{Entity}
 use Rattle.shop_defs.specs.declared.entity.Entity.TheVariants as E
 use Rattle.shop_defs.specs.declared.key.Key.{Key}
+use Rattle.shop_requests.specs.declared.command.Command.{Command}
 use Rattle.shop_requests.specs.declared.query.RowRead.{RowRead}
 use Rattle.shop_defs.specs.declared.row.Row.{Row}
 use Rattle.shop_defs.specs.declared.table.EntityInfo.{EntityInfo}
@@ -20,15 +21,20 @@ use Rattle.cart_loop.specs.declared.fault.CartRefused.TheVariants as carts
 use Rattle.cart_loop.specs.Answer.{settling}
 use Rattle.shop_chain.specs.Chains.{chain_of}
 use Rattle.shop_chain.specs.Showing.{shown}
-use Rattle.shop_core.specs.declared.answers.AskFault.{AskFault}
-use Rattle.shop_core.specs.declared.answers.AskFault.TheVariants as asking
+use Rattle.idx_copy.specs.declared.answer.AskFault.{AskFault}
+use Rattle.idx_copy.specs.declared.answer.AskFault.TheVariants as asking
+use Rattle.shop_core.specs.declared.answers.CommitFault.{CommitFault}
 use Rattle.shop_core.specs.declared.answers.CommitFault.TheVariants as faults
+use Rattle.shop_core.specs.declared.answers.Done.{Done}
 use Rattle.shop_core.specs.declared.answers.Reply.{Reply}
 use Rattle.shop_core.specs.declared.answers.Reply.TheVariants as replies
 use Rattle.shop_core.specs.declared.answers.Request.{Request}
 use Rattle.shop_core.specs.declared.answers.Request.TheVariants as requests
 use Rattle.shop_core.specs.declared.answers.RowReply.{RowReply}
 use Rattle.shop_core.specs.Commits.{Commits}
+use Rattle.shop_core.specs.Publishing.{CatchesUp, OnlyPublishes}
+use Rattle.shop_core.specs.Indexed.{IsTold}
+use Rattle.shop_meanings.specs.Direct.{IsAsked}
 use Rattle.shop_core.specs.Shops.{ShopView}
 use Rattle.shop_core.specs.Steps.{IsBuilt}
 
@@ -113,8 +119,9 @@ abbrev pub IsBuiltRequest : Request → Type 0
 IsBuiltRequest (requests.Write command) = IsBuilt command
 IsBuiltRequest (requests.Row read) = Unit {0}
 IsBuiltRequest (requests.RowList entity id second) = Unit {0}
+IsBuiltRequest (requests.Indexed query least) = IsAsked query
 IsBuiltRequest (requests.Cart cart) = Unit {0}
-IsBuiltRequest request = ⊥
+IsBuiltRequest requests.Front = Unit {0}
 
 -- the answer to a read that shows nothing
 abbrev pub not_shown : AskFault → Reply
@@ -136,6 +143,12 @@ IsRead old (replies.Refused rule) shown now = (shown ≡ Err rule.broken) × (ru
 IsRead old replies.NoMemory shown now = now ≡ old
 IsRead old reply shown now = (shown ≡ Ok reply) × (now ≡ old)
 
+-- a read before which the shop catches up changes nothing else, and is answered by what it shows
+abbrev pub IsReadCaughtUp : ShopView → Reply → Result Reply Broken → ShopView → Type 0
+IsReadCaughtUp old (replies.Refused rule) shown now = (shown ≡ Err rule.broken) × (rule.op ≡ 0) × CatchesUp old now
+IsReadCaughtUp old replies.NoMemory shown now = OnlyPublishes old now
+IsReadCaughtUp old reply shown now = (shown ≡ Ok reply) × CatchesUp old now
+
 abbrev pub answered : {X : Type 0} → (X → Reply) → Result X Broken → Result Reply Broken
 answered reply (Ok value) = Ok (reply value)
 answered reply (Err broken) = Err broken
@@ -144,18 +157,26 @@ answered reply (Err broken) = Err broken
 abbrev pub cart_answer : List Row → ℕ → ℕ → ℤ → Result Reply Broken
 cart_answer rows number cart moment = answered (λ settled. replies.Cart number settled) (settling rows cart moment)
 
--- a write is answered as its commit is
-abbrev pub IsWritten : ShopView → Reply → ℤ → Request → ShopView → Type 0
-IsWritten old (replies.Done done) moment (requests.Write command) now = Commits old command moment (Ok done) now
-IsWritten old (replies.Refused rule) moment (requests.Write command) now = Commits old command moment (Err (faults.Refused rule)) now
-IsWritten old replies.StoreFailed moment (requests.Write command) now = Commits old command moment (Err faults.StoreFailed) now
-IsWritten old replies.NoMemory moment (requests.Write command) now = Commits old command moment (Err faults.NoMemory) now
-IsWritten old reply moment request now = ⊥
+-- the answer to a commit
+abbrev pub written : Result Done CommitFault → Reply
+written (Ok done) = replies.Done done
+written (Err (faults.Refused rule)) = replies.Refused rule
+written (Err faults.StoreFailed) = replies.StoreFailed
+written (Err faults.NoMemory) = replies.NoMemory
+
+-- A write is answered as its commit is, and then the shop catches up, unless memory runs out for that.
+pub record IsWritten (old : ShopView) (reply : Reply) (moment : ℤ) (command : Command) (now : ShopView) : Type 0 where
+  pub answer : Result Done CommitFault
+  pub between : ShopView
+  pub commits : Commits old command moment answer between
+  pub reply_is : reply ≡ written answer
+  pub after : CatchesUp between now ⊎ (now ≡ between)
 
 -- A request that is built is answered as its commit or its read is.
 abbrev pub Answers : ShopView → Request → ℤ → Reply → ShopView → Type 0
-Answers old (requests.Write command) moment reply now = IsWritten old reply moment (requests.Write command) now
+Answers old (requests.Write command) moment reply now = IsWritten old reply moment command now
 Answers old (requests.Row read) moment reply now = IsRead old reply (answered replies.Row (reading old.rows read)) now
 Answers old (requests.RowList entity id second) moment reply now = IsRead old reply (answered replies.RowList (with_bare (listing old.rows entity id second))) now
-Answers old (requests.Cart cart) moment reply now = IsRead old reply (cart_answer old.rows old.number cart moment) now
-Answers old request moment reply now = ⊥
+Answers old (requests.Indexed query least) moment reply now = IsTold old reply query least now
+Answers old (requests.Cart cart) moment reply now = IsReadCaughtUp old reply (cart_answer old.rows old.number cart moment) now
+Answers old requests.Front moment reply now = (reply ≡ replies.Front old.number old.copy.front) × (now ≡ old)

@@ -6,8 +6,8 @@ use Rattle.shop_defs.specs.declared.broken.Broken.{Broken}
 use Rattle.shop_defs.specs.declared.entity.Entity.{Entity}
 use Rattle.shop_defs.specs.declared.row.Row.{Row}
 use Rattle.shop_defs.specs.Entities.{entity_number}
-use Rattle.shop_core.specs.declared.answers.AskFault.{AskFault}
-use Rattle.shop_core.specs.declared.answers.AskFault.TheVariants as asking
+use Rattle.idx_copy.specs.declared.answer.AskFault.{AskFault}
+use Rattle.idx_copy.specs.declared.answer.AskFault.TheVariants as asking
 use Rattle.shop_core.specs.declared.answers.RowReply.{RowReply}
 use Rattle.shop_core.specs.declared.answers.RowSeen.{RowSeen}
 

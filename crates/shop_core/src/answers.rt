@@ -1,14 +1,15 @@
 //! What a shop is asked, and what it answers.
 ghost use Rattle.std.specs.Prelude.{◌≡◌};
-ghost use Rattle.shop_core.specs.declared.answers.AskFault.TheVariants as asking;
 ghost use Rattle.shop_core.specs.declared.answers.CommitFault.TheVariants as committing;
 ghost use Rattle.shop_core.specs.Requests as spec;
 
 use cart_loop::CartRefused;
 use cart_price::Settled;
+use idx_copy::AskFault;
 use shop_chain::Shown;
 use shop_check::Rule;
 use shop_defs::{Broken, Key, List, NoMemory, Refused, Row, Txt, Value};
+use shop_meanings::Standing;
 use shop_outside::Moment;
 use shop_requests::{Command, LineFault, Query, RowRead};
 
@@ -87,23 +88,6 @@ pub struct RowSeen<'a> {
     pub shown: Shown<'a>,
 }
 
-/// Why a row is not shown.
-#[derive(Drop)]
-pub enum AskFault {
-    /// The read breaks a rule.
-    Refused(Broken),
-    /// Memory was refused.
-    NoMemory,
-}
-
-impl From<NoMemory> for AskFault {
-    ghost from_gives = { λ _ fault. fault ≡ asking.NoMemory };
-
-    fn from(_: NoMemory) -> AskFault {
-        AskFault::NoMemory
-    }
-}
-
 /// What a shop is asked.
 #[derive(Drop)]
 pub enum Request {
@@ -120,7 +104,7 @@ pub enum Request {
         /// The second part of the place. 0 is below all of them.
         second: u128,
     },
-    /// To answer what an index knows. No call of this crate answers it yet.
+    /// To answer a question about all rows. So far it is the one where a category stands.
     Indexed {
         /// The question.
         query: Query,
@@ -132,7 +116,7 @@ pub enum Request {
         /// The id of the cart.
         cart: u128,
     },
-    /// To say how many entries are accepted and published. No call of this crate answers it yet.
+    /// To say how many entries are accepted and published.
     Front,
 }
 
@@ -152,15 +136,28 @@ pub enum Reply {
         /// The cart as it is settled by the rows after these.
         settled: Settled,
     },
-    /// How many entries there are. No call of this crate answers it yet.
+    /// Where a category stands among the others.
+    Tree {
+        /// The answer is that of the rows after so many entries.
+        front: u64,
+        /// Where it stands.
+        standing: Standing,
+    },
+    /// No row has the key that a question about all rows names.
+    Missing {
+        /// The answer is that of the rows after so many entries.
+        front: u64,
+        /// The key.
+        key: Key,
+    },
+    /// How many entries there are.
     Front {
         /// So many are accepted.
         accepted: u64,
-        /// So many of them the indexes have seen.
+        /// So many of them the published copy has taken in.
         published: u64,
     },
-    /// An index is asked for what more entries than there are have changed. No call of this crate
-    /// answers it yet.
+    /// A question asks for an answer over more entries than there are.
     FrontUnknown {
         /// So many entries the answer has to have seen at least.
         asked: u64,
@@ -202,5 +199,17 @@ pub(crate) fn not_settled(cart: u128, fault: CartRefused) -> Reply
         CartRefused::NoSuchCart => broken_by(Broken::NoSuchCart { id: cart }),
         CartRefused::Unstable => broken_by(Broken::Unstable { id: cart }),
         CartRefused::NoMemory => Reply::NoMemory,
+    }
+}
+
+/// The answer to a commit.
+pub(crate) fn written(answer: Result<Done, CommitFault>) -> Reply
+    ensures { result ≡ spec.written answer }
+{
+    match answer {
+        Ok(done) => Reply::Done(done),
+        Err(CommitFault::Refused(refused)) => Reply::Refused(refused),
+        Err(CommitFault::StoreFailed) => Reply::StoreFailed,
+        Err(CommitFault::NoMemory) => Reply::NoMemory,
     }
 }

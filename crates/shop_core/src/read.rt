@@ -1,5 +1,5 @@
 //! Rows as they are shown and listed.
-ghost use Rattle.std.specs.Prelude.{◌≡◌, IfOk, MatchResult, map, take, filter};
+ghost use Rattle.std.specs.Prelude.{◌≡◌, IfOk, OnErr, IsErrOf, IsSome, MatchResult, map, take, filter, option_and_then};
 ghost use Rattle.std.specs.List.{take_while};
 ghost use Rattle.std.specs.Option.{option_copied};
 ghost use Rattle.shop_requests.specs.Operations as Operations;
@@ -11,7 +11,8 @@ ghost use Rattle.shop_core.specs.Requests as spec;
 ghost use Rattle.shop_core.specs.Requests.{Shows, listing, reading, with_bare};
 ghost use Rattle.shop_core.specs.Seeing.{Sees, SeesRows, is_of};
 
-use crate::answers::{AskFault, RowReply, RowSeen};
+use crate::answers::{RowReply, RowSeen};
+use idx_copy::AskFault;
 use shop_chain::{Shown, chain, chain_of, shown_of};
 use shop_defs::{
     Broken, Copied, Entity, EntityInfo, Key, KeyForm, List, NoMemory, Row, Txt, Value, entity_info,
@@ -31,7 +32,8 @@ pub(crate) fn see_row<'a>(
     rows: &'a Rows,
     read: &RowRead,
 ) -> Result<RowSeen<'a>, AskFault>
-    ensures { Sees result (reading rows.entry.now.list read.now) }
+    ensures seen { Sees result (reading rows.entry.now.list read.now) }
+    ensures wanted { IsErrOf result AskFault.NoMemory → IsSome (option_and_then (λ info. spec.wrong_form info read.now) (Tables.info_named read.now.entity)) }
 {
     match info_named(read.entity.as_bytes()) {
         Some(info) => see_row_of(alloc, rows, info, read),
@@ -56,7 +58,8 @@ fn see_row_of<'a>(
     info: EntityInfo,
     read: &RowRead,
 ) -> Result<RowSeen<'a>, AskFault>
-    ensures { Sees result (spec.read_in rows.entry.now.list read.now (Some info)) }
+    ensures seen { Sees result (spec.read_in rows.entry.now.list read.now (Some info)) }
+    ensures wanted { IsErrOf result AskFault.NoMemory → IsSome (spec.wrong_form info read.now) }
 {
     if let Some(broken) = broken_rule(alloc, rows, info, read)? {
         return Err(AskFault::Refused(broken));
@@ -83,7 +86,8 @@ fn broken_rule(
     info: EntityInfo,
     read: &RowRead,
 ) -> Result<Option<Broken>, NoMemory>
-    ensures { IfOk result (λ broken. broken ≡ Operations.or_else (spec.wrong_form info read.now) (spec.unknown_version rows.now.list read.now)) }
+    ensures broken { IfOk result (λ broken. broken ≡ Operations.or_else (spec.wrong_form info read.now) (spec.unknown_version rows.now.list read.now)) }
+    ensures wanted { OnErr result (IsSome (spec.wrong_form info read.now)) }
 {
     if let Some(name) = wrong_second(info.key, read.second) {
         return Ok(Some(Broken::WrongKind {
@@ -181,7 +185,8 @@ pub(crate) fn see_list<'a>(
     id: u128,
     second: u128,
 ) -> Result<Vec<&'a Row>, AskFault>
-    ensures { SeesRows result (listing rows.entry.now.list entity.now id second) }
+    ensures rows { SeesRows result (listing rows.entry.now.list entity.now id second) }
+    ensures wanted { IsErrOf result AskFault.NoMemory → IsSome (Tables.entity_named entity.now) }
 {
     match entity_named(entity) {
         Some(entity) => Ok(listed(alloc, rows, entity, id, second)?),

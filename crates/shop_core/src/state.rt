@@ -1,47 +1,65 @@
 //! The rows, the keeper and the number of accepted entries.
-ghost use Rattle.std.specs.Prelude.{◌≡◌, List, ℕ, Option, Some, Ok, Err, IfOk, IfErr, MatchResult, OnOk};
+ghost use Rattle.std.specs.Prelude.{◌≡◌, ◌+◌, ◌-◌, ◌<◌, ◌≤◌, ◌^◌, List, length, take, ℕ, Option, Some, Ok, Err, IfOk, IfErr, MatchResult, OnOk, OnErr};
+ghost use Rattle.std.specs.Arc.{arc_value};
 ghost use Rattle.shop_defs.specs.declared.row.Row.{Row};
 ghost use Rattle.shop_outside.specs.Clocks.{IsMoment};
 ghost use Rattle.shop_check.specs.Soundness.{kept as kept_rows, AreSound};
 ghost use Rattle.shop_core.specs.Steps.{IsBuilt};
 ghost use Rattle.shop_core.specs.Shops.{ShopView, IsShop};
-ghost use Rattle.shop_core.specs.Commits.{Commits};
+ghost use Rattle.shop_meanings.specs.Direct.{IsAsked};
+ghost use Rattle.idx_copy.specs.Answers as known;
+ghost use Rattle.shop_core.specs.Indexed.{IsTold, Tells, direct_reply};
+ghost use Rattle.shop_core.specs.Publishing.{CatchesUp, Installs, MakesRoom};
+ghost use Rattle.shop_core.specs.Commits.{CarriesOut, Commits};
+ghost use Rattle.idx_copy.specs.Fronts.{EachFits, changes_in, rows_after};
 ghost use Rattle.shop_core.specs.Opening.{Opens, HasOpenCause, IsNoDamage};
 ghost use Rattle.cart_loop.specs.Settled.{IsRefused, IsSettled};
 ghost use Rattle.shop_core.specs.Carts.{ReadsCart};
-ghost use Rattle.shop_core.specs.Requests.{Answers, IsBuiltRequest, IsRead, Shows, cart_answer, listing, reading, with_bare};
+ghost use Rattle.shop_core.specs.Requests.{Answers, IsBuiltRequest, IsRead, IsReadCaughtUp, IsWritten, Shows, cart_answer, listing, reading, with_bare};
 ghost use Rattle.shop_core.specs.Seeing.{Sees, SeesRows};
 ghost use Rattle.shop_core.specs.FirstBroken.{KeepsRules, NamesFirst};
 
 use crate::answers::{
-    AskFault, CommitFault, Done, OpenFault, Reply, Request, RowReply, RowSeen, not_settled,
-    not_shown,
+    CommitFault, Done, OpenFault, Reply, Request, RowReply, RowSeen, not_settled, not_shown,
+    written,
 };
+use crate::known::{refused_at, told};
 use crate::plan::{encode_changes, plan};
 use crate::read::{copy_list, copy_row, see_list, see_row};
+use crate::ready::{first_queue, make_ready};
 use cart_loop::{CartRefused, settle};
 use cart_price::Settled;
+use idx_copy::{Answer, AskFault, IndexCopy};
+use publishing::{Batch, Older, Queue};
 use shop_check::{CheckFault, check_rows};
-use shop_defs::{Broken, List, PlanFault, Refused, Row};
+use shop_defs::{Broken, List, NoMemory, PlanFault, Refused, Row};
 use shop_outside::{KeepFault, Keeper, Moment};
-use shop_requests::{Command, RowRead};
+use shop_requests::{Command, Query, RowRead};
 use shop_rows::Rows;
 use std::alloc::Global;
 use std::marker::Model;
+use std::sync::Arc;
 
 /// So many entries are accepted at most, with those that the keeper's number counts.
 const MOST_ENTRIES: u64 = 1 << 62;
 
-/// A shop: its rows behind a keeper, and how many entries of its history were accepted.
+/// So many deltas are pending at most.
+const MOST_PENDING: usize = 1024;
+
+/// A shop: its rows behind a keeper, how many entries of its history were accepted, and a published copy
+/// of the rows with the deltas that lead on from it.
 ///
 /// Contracts see the rows as a list in key order, the number, what the keeper holds, where it tells,
-/// and the keeper's count of faults. The rows are sound, and a keeper that tells holds the kept rows
-/// and the number, whatever calls of it failed.
+/// the keeper's count of faults, the published copy, and the changes of each pending delta. The rows are
+/// sound, and a keeper that tells holds the kept rows and the number, whatever calls of it failed. The
+/// pending deltas, one after the other, lead from the copy's rows to these, over sound rows alone, and
+/// there are as many as the number is above the copy's front.
 #[derive(Drop)]
 pub struct ShopState<P: Keeper + Drop> {
     rows: Rows,
     keeper: P,
     number: u64,
+    queue: Queue,
 }
 
 impl<P: Keeper + Drop> Model for ShopState<P> {
@@ -49,12 +67,13 @@ impl<P: Keeper + Drop> Model for ShopState<P> {
 
     ghost Value = { ShopView };
 
-    ghost view = { λ s. record { rows = s.rows.list; number = s.number; content = P.content s.keeper; faults = P.keep_faults s.keeper } };
+    ghost view = { λ s. record { rows = s.rows.list; number = s.number; content = P.content s.keeper; faults = P.keep_faults s.keeper; copy = s.queue.copy; pending = s.queue.pending } };
 
-    ghost invariant = { λ s. IsShop (record { rows = s.rows.list; number = s.number; content = P.content s.keeper; faults = P.keep_faults s.keeper }) };
+    ghost invariant = { λ s. IsShop (record { rows = s.rows.list; number = s.number; content = P.content s.keeper; faults = P.keep_faults s.keeper; copy = s.queue.copy; pending = s.queue.pending }) };
 }
 
-/// Opens the shop that the keeper holds. Entries are counted on from the keeper's number.
+/// Opens the shop that the keeper holds. Entries are counted on from the keeper's number, which is the
+/// first front that is published.
 ///
 /// # Errors
 ///
@@ -78,11 +97,15 @@ pub fn open_shop<P: Keeper + Drop>(
 {
     match keeper.load() {
         Ok(kept) => match check_rows(alloc, kept.rows.as_slice()) {
-            Ok(rows) => Ok(ShopState {
-                rows,
-                keeper,
-                number: kept.number,
-            }),
+            Ok(rows) => match first_queue(alloc, &rows, kept.number) {
+                Ok(queue) => Ok(ShopState {
+                    rows,
+                    keeper,
+                    number: kept.number,
+                    queue,
+                }),
+                Err(_) => Err((keeper, OpenFault::NoMemory)),
+            },
             Err(CheckFault::Damaged { key, rule }) => Err((
                 keeper,
                 OpenFault::Damaged { key, rule },
@@ -97,7 +120,9 @@ pub fn open_shop<P: Keeper + Drop>(
 impl<P: Keeper + Drop> ShopState<P> {
     /// Carries out a command, and keeps what it changes.
     ///
-    /// All memory is taken before the keeper is called.
+    /// At 1,024 pending deltas the shop catches up before the command is looked at, and so also where it
+    /// is then refused. An accepted command puts its delta behind those that are then pending. All memory
+    /// is taken before the keeper is called.
     ///
     /// # Errors
     ///
@@ -115,6 +140,38 @@ impl<P: Keeper + Drop> ShopState<P> {
         ensures commits { Commits self.old command.now moment result self.new }
         ensures shop { IsShop self.new }
     {
+        match self.make_room(alloc) {
+            Ok(()) => self.carry_out(alloc, command, moment),
+            Err(_) => Err(CommitFault::NoMemory),
+        }
+    }
+
+    /// Catches up where as many deltas are pending as there may be. Want of memory is the only error, and
+    /// nothing changes then.
+    fn make_room(&mut self, alloc: Global) -> Result<(), NoMemory>
+        ensures ok { OnOk result (MakesRoom self.old self.new) }
+        ensures err { OnErr result (self.new ≡ self.old) }
+        ensures shop { IsShop self.new }
+    {
+        if self.queue.pending() < MOST_PENDING {
+            return Ok(());
+        }
+        let _front = self.catch_up(alloc)?;
+        Ok(())
+    }
+
+    /// Carries out a command, where fewer deltas are pending than there may be.
+    fn carry_out(
+        &mut self,
+        alloc: Global,
+        command: &Command,
+        moment: Moment,
+    ) -> Result<Done, CommitFault>
+        requires built { IsBuilt command.now }
+        requires moment { IsMoment moment }
+        ensures carries { CarriesOut self.old command.now moment result self.new }
+        ensures shop { IsShop self.new }
+    {
         let (delta, value) = match plan(alloc, &self.rows, command, moment) {
             Ok(plan) => plan,
             Err(PlanFault::Refused(refused)) => return Err(CommitFault::Refused(refused)),
@@ -127,10 +184,11 @@ impl<P: Keeper + Drop> ShopState<P> {
             }));
         }
         let bytes = encode_changes(alloc, delta.changes.as_slice())?;
-        self.rows.reserve(&delta)?;
+        let shared = make_ready(alloc, &mut self.rows, &mut self.queue, &delta)?;
         match self.keeper.apply(bytes.as_slice(), self.number + 1) {
             Ok(()) => {
                 self.rows.apply(delta);
+                self.queue.push(shared);
                 self.number += 1;
                 Ok(Done {
                     front: self.number,
@@ -140,6 +198,88 @@ impl<P: Keeper + Drop> ShopState<P> {
             Err(KeepFault::Failed) => Err(CommitFault::StoreFailed),
             Err(KeepFault::NoMemory) => Err(CommitFault::NoMemory),
         }
+    }
+
+    /// Publishes the copy after all accepted entries, and answers its front. The rows, the number and the
+    /// keeper stay. Where nothing is pending it takes no memory. Want of memory is the only error, and
+    /// nothing changes then.
+    pub fn catch_up(&mut self, alloc: Global) -> Result<u64, NoMemory>
+        ensures ok { OnOk result (CatchesUp self.old self.new) }
+        ensures front { IfOk result (λ front. front ≡ self.new.number) }
+        ensures wanted { OnErr result (0 < length self.old.pending) }
+        ensures err { OnErr result (self.new ≡ self.old) }
+        ensures shop { IsShop self.new }
+    {
+        if self.queue.pending() == 0 {
+            return Ok(self.queue.front());
+        }
+        let _front = self.queue.catch_up(alloc)?;
+        Ok(self.queue.front())
+    }
+
+    /// The published copy and the first pending deltas, as many as are asked for, or all where they are
+    /// fewer: what the next copy is built of. Want of memory is the only error.
+    pub fn batch(&self, alloc: Global, most: usize) -> Result<Batch, NoMemory>
+        requires { 1 ≤ most }
+        ensures copy { IfOk result (λ batch. arc_value batch.copy ≡ self.now.copy) }
+        ensures deltas { IfOk result (λ batch. changes_in batch.deltas ≡ take most self.now.pending) }
+        // The next copy may be built of them.
+        ensures fits { IfOk result (λ batch. (arc_value batch.copy).front + length batch.deltas < 2 ^ 63) }
+        ensures keys { IfOk result (λ batch. EachFits (changes_in batch.deltas)) }
+        ensures sound { IfOk result (λ batch. AreSound (rows_after (arc_value batch.copy).rows (changes_in batch.deltas))) }
+    {
+        self.queue.batch(alloc, most)
+    }
+
+    /// Publishes a copy that was built of the published one and the first pending deltas, and answers
+    /// its front. The rows, the number and the keeper stay. It takes no memory.
+    ///
+    /// # Errors
+    ///
+    /// `Older` comes exactly where its front isn't above that of the published one. Nothing changes
+    /// then.
+    pub fn install(&mut self, copy: Arc<IndexCopy>) -> Result<u64, Older>
+        requires front { (arc_value copy).front ≤ self.old.number }
+        requires rows { self.old.copy.front < (arc_value copy).front → (arc_value copy).rows ≡ rows_after self.old.copy.rows (take ((arc_value copy).front - self.old.copy.front) self.old.pending) }
+        ensures installs { Installs self.old (arc_value copy) result self.new }
+        ensures shop { IsShop self.new }
+    {
+        // What always holds of a queue is known once it is read.
+        let _published = self.queue.front();
+        let installed = self.queue.install(copy);
+        let _front = self.queue.front();
+        installed
+    }
+
+    /// The published copy, shared. Want of memory is the only error.
+    pub fn published(&self) -> Result<Arc<IndexCopy>, NoMemory>
+        ensures copy { IfOk result (λ copy. arc_value copy ≡ self.now.copy) }
+        ensures shop { IsShop self.now }
+    {
+        self.queue.published()
+    }
+
+    /// What a question about all rows is answered by the published copy, lent as long as the shop stays as
+    /// it is. So far it is the one where a category stands, which takes no memory.
+    ///
+    /// # Errors
+    ///
+    /// `Refused` with `NoSuchRow` comes exactly where there is no such live category, and `NoMemory` of no
+    /// question that is asked so far.
+    pub fn ask<'a>(&'a self, query: &Query) -> Result<Answer<'a>, AskFault>
+        requires { IsAsked query.now }
+        ensures answers { known.Answers self.entry.now.copy.rows query.now result }
+        ensures shop { IsShop self.entry.now }
+    {
+        self.queue.copy().ask(query)
+    }
+
+    /// The front of the published copy: how many accepted entries it has taken in. It takes no memory.
+    pub fn front(&self) -> u64
+        ensures front { result ≡ self.now.copy.front }
+        ensures shop { IsShop self.now }
+    {
+        self.queue.front()
     }
 
     /// The row that a read asks for, with what is shown of it: a product or a category in the read's
@@ -246,7 +386,7 @@ impl<P: Keeper + Drop> ShopState<P> {
 
     /// Answers what a cart is settled at.
     #[tactic(auto, using(crate::proofs::SoundCarts::shows, crate::proofs::SoundCarts::shows_none))]
-    fn answer_cart(&self, alloc: Global, cart: u128, moment: Moment) -> Reply
+    fn show_cart(&self, alloc: Global, cart: u128, moment: Moment) -> Reply
         requires moment { IsMoment moment }
         ensures answers { IsRead self.now result (cart_answer self.now.rows self.now.number cart moment) self.now }
         ensures shop { IsShop self.now }
@@ -257,8 +397,64 @@ impl<P: Keeper + Drop> ShopState<P> {
         }
     }
 
-    /// Answers one request that is built: a write as `commit` does, and a read as `read_row`, `read_list` or
-    /// `read_cart` does, which changes nothing.
+    /// Catches up, and answers what a cart is settled at.
+    fn answer_cart(&mut self, alloc: Global, cart: u128, moment: Moment) -> Reply
+        requires moment { IsMoment moment }
+        ensures answers { IsReadCaughtUp self.old result (cart_answer self.old.rows self.old.number cart moment) self.new }
+        ensures shop { IsShop self.new }
+    {
+        match self.catch_up(alloc) {
+            Ok(_) => self.show_cart(alloc, cart, moment),
+            Err(_) => Reply::NoMemory,
+        }
+    }
+
+    /// Answers a question about all rows by the published copy.
+    fn show_known(&self, alloc: Global, query: &Query) -> Reply
+        requires asked { IsAsked query.now }
+        ensures tells { Tells result (direct_reply self.now.copy.rows self.now.copy.front query.now) }
+    {
+        match self.ask(query) {
+            Ok(answer) => told(alloc, self.front(), &answer),
+            Err(AskFault::Refused(broken)) => refused_at(self.front(), broken),
+            Err(AskFault::NoMemory) => Reply::NoMemory,
+        }
+    }
+
+    /// Catches up, and answers a question about all rows, unless more entries are asked for than there are.
+    fn answer_known(&mut self, alloc: Global, query: &Query, min_front: u64) -> Reply
+        requires asked { IsAsked query.now }
+        ensures answers { IsTold self.old result query.now min_front self.new }
+        ensures shop { IsShop self.new }
+    {
+        if min_front > self.number {
+            return Reply::FrontUnknown {
+                asked: min_front,
+                have: self.number,
+            };
+        }
+        match self.catch_up(alloc) {
+            Ok(_) => self.show_known(alloc, query),
+            Err(_) => Reply::NoMemory,
+        }
+    }
+
+    /// Answers a write, and then catches up.
+    fn answer_write(&mut self, alloc: Global, command: &Command, moment: Moment) -> Reply
+        requires built { IsBuilt command.now }
+        requires moment { IsMoment moment }
+        ensures answers { IsWritten self.old result moment command.now self.new }
+        ensures shop { IsShop self.new }
+    {
+        let reply = written(self.commit(alloc, command, moment));
+        // A write stands also where no memory is left to publish it.
+        let _ = self.catch_up(alloc);
+        reply
+    }
+
+    /// Answers one request that is built: a write as `commit` does, after which the shop catches up; and a
+    /// read as `read_row`, `read_list`, `ask` or `read_cart` does, which changes nothing, but that the shop
+    /// catches up before a question about all rows and before a cart.
     pub fn answer(&mut self, alloc: Global, request: &Request, moment: Moment) -> Reply
         requires built { IsBuiltRequest request.now }
         requires moment { IsMoment moment }
@@ -266,12 +462,7 @@ impl<P: Keeper + Drop> ShopState<P> {
         ensures shop { IsShop self.new }
     {
         match request {
-            Request::Write(command) => match self.commit(alloc, command, moment) {
-                Ok(done) => Reply::Done(done),
-                Err(CommitFault::Refused(refused)) => Reply::Refused(refused),
-                Err(CommitFault::StoreFailed) => Reply::StoreFailed,
-                Err(CommitFault::NoMemory) => Reply::NoMemory,
-            },
+            Request::Write(command) => self.answer_write(alloc, command, moment),
             Request::Row(read) => match self.read_row(alloc, read) {
                 Ok(reply) => Reply::Row(reply),
                 Err(fault) => not_shown(fault),
@@ -282,8 +473,12 @@ impl<P: Keeper + Drop> ShopState<P> {
                     Err(fault) => not_shown(fault),
                 }
             }
+            Request::Indexed { query, min_front } => self.answer_known(alloc, query, *min_front),
             Request::Cart { cart } => self.answer_cart(alloc, *cart, moment),
-            _ => unreachable!(),
+            Request::Front => Reply::Front {
+                accepted: self.number,
+                published: self.queue.front(),
+            },
         }
     }
 
@@ -313,6 +508,7 @@ impl<P: Keeper + Drop> ShopState<P> {
             rows: _,
             keeper,
             number: _,
+            queue: _,
         } = self;
         keeper
     }

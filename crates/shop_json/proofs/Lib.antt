@@ -1,3 +1,4 @@
 pub mod Bodies
 pub mod Constant
 pub mod DoneText
+pub mod Served

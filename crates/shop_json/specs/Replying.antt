@@ -11,6 +11,7 @@ use Rattle.reply_json.specs.Fronts.{front_data, front_unknown_data}
 use Rattle.reply_json.specs.Objects.{object_of}
 use Rattle.reply_json.specs.Refusals.{refusal_data, refusal_status}
 use Rattle.reply_json.specs.RowReplies.{done_data, row_data, rows_data}
+use Rattle.reply_json.specs.Trees.{missing_data, tree_data}
 
 -- of a row of which nothing is shown beside its fields, no member says so
 abbrev pub if_any : ShownList → Option ShownList
@@ -25,6 +26,8 @@ reply_data (R.Done done) = done_data done.front done.value
 reply_data (R.Row reply) = row_data reply.row (if_any reply.shown)
 reply_data (R.RowList replies) = rows_data (map (λ reply. reply.row) replies)
 reply_data (R.Cart front settled) = settled_data front settled
+reply_data (R.Tree front standing) = tree_data front standing.path standing.level standing.children
+reply_data (R.Missing front key) = missing_data front key
 reply_data (R.Front accepted published) = front_data accepted published
 reply_data (R.FrontUnknown asked have) = front_unknown_data asked have
 reply_data (R.Refused refused) = refusal_data refused
@@ -37,6 +40,8 @@ reply_status (R.Done done) = 200
 reply_status (R.Row reply) = 200
 reply_status (R.RowList replies) = 200
 reply_status (R.Cart front settled) = 200
+reply_status (R.Tree front standing) = 200
+reply_status (R.Missing front key) = 404
 reply_status (R.Front accepted published) = 200
 reply_status (R.FrontUnknown asked have) = 409
 reply_status (R.Refused refused) = refusal_status refused.broken

@@ -6,7 +6,8 @@
 //!   body (`answer`), of every route.
 //! - `reply_text` is the status and the body of each reply; the body of rows that are lent is that of
 //!   their reply, printed into memory that is handed in (`seen_row_text`, `seen_list_text`), and so is
-//!   that of a settled cart (`cart_text`).
+//!   that of a settled cart (`cart_text`) and what is answered of a question about all rows
+//!   (`answer_text`).
 //! - `put_done` prints the whole response to a write that is accepted into room that was taken before,
 //!   and can't fail.
 //! - The paths of the interface may be handed to another thread (`law_of_threads`).
@@ -20,5 +21,5 @@ mod threads;
 pub use body::read_body;
 pub use body_json::BodyFault;
 pub use done::{LONGEST_DONE, put_done, put_store_failed, reserve_done};
-pub use reply::{cart_text, reply_text, seen_list_text, seen_row_text};
+pub use reply::{answer_text, cart_text, reply_text, seen_list_text, seen_row_text};
 pub use threads::law_of_threads;

@@ -1,8 +1,10 @@
 //! Replies as JSON.
-ghost use Rattle.std.specs.Prelude.{◌≡◌, map, IfOk, OnOk};
+ghost use Rattle.std.specs.Prelude.{◌≡◌, map, IfOk, Ok, OnOk};
 ghost use Rattle.std.specs.Option.{option_map};
 ghost use Rattle.shop_core.specs.declared.answers.Reply.TheVariants as replies;
 ghost use Rattle.shop_chain.specs.Showing.{lent};
+ghost use Rattle.idx_copy.specs.Answers.{said};
+ghost use Rattle.shop_core.specs.Indexed.{said_reply};
 ghost use Rattle.shop_core.specs.Requests.{bare};
 ghost use Rattle.shop_core.specs.Seeing.{reply_of};
 ghost use Rattle.shop_json.specs.Replying as spec;
@@ -10,13 +12,14 @@ ghost use Rattle.shop_json.specs.Replying as spec;
 use cart_json::settled_text;
 use cart_price::Settled;
 use reply_json::{
-    done_text, fault_status, fault_text, front_text, front_unknown_text, refusal_status,
-    refusal_text, row_text, rows_text, seen_text,
+    done_text, fault_status, fault_text, front_text, front_unknown_text, missing_text,
+    refusal_status, refusal_text, row_text, rows_text, seen_text, tree_text,
 };
 use shop_chain::{Shown, ShownValue};
-use shop_core::{Reply, RowReply, RowSeen};
+use shop_core::{Answer, Reply, RowReply, RowSeen};
 use shop_defs::{List, NoMemory, Row, Txt, Value};
 use shop_http::{NO_MEMORY_BODY, STORE_FAILED_BODY};
+use shop_meanings::Standing;
 use std::alloc::Global;
 
 /// The status (RFC 9110, section 15) and the body of the response to a request that was answered so.
@@ -33,6 +36,8 @@ pub fn reply_text(alloc: Global, reply: &Reply) -> Result<(u16, List<u8>), NoMem
         Reply::Row(reply) => Ok((200, row_text(alloc, &reply.row, if_any(&reply.shown))?)),
         Reply::RowList(replies) => Ok((200, replied_text(alloc, replies.as_slice())?)),
         Reply::Cart { front, settled } => Ok((200, settled_body(alloc, *front, settled)?)),
+        Reply::Tree { front, standing } => Ok((200, standing_body(alloc, *front, standing)?)),
+        Reply::Missing { front, key } => Ok((404, missing_text(alloc, *front, key)?)),
         Reply::Front {
             accepted,
             published,
@@ -120,6 +125,44 @@ pub fn cart_text(
     ensures { OnOk result (room.new.items ≡ spec.reply_body (replies.Cart front settled.now)) }
 {
     settled_text(alloc, room, front, settled)
+}
+
+/// The body that says where a category stands.
+#[tactic(auto, unfolding(crate::specs::Replying::reply_body))]
+fn standing_body(alloc: Global, front: u64, standing: &Standing) -> Result<List<u8>, NoMemory>
+    ensures { IfOk result (λ body. body ≡ spec.reply_body (replies.Tree front standing.now)) }
+{
+    let mut room = Vec::new(alloc);
+    let path = standing.path.as_slice();
+    tree_text(
+        alloc,
+        &mut room,
+        front,
+        path,
+        standing.level,
+        standing.children,
+    )?;
+    Ok(List::from_vec(room))
+}
+
+/// Prints the body of the reply that says what is lent of a question about all rows, by the rows after so
+/// many entries, as `seen_row_text` does.
+#[tactic(auto, unfolding(crate::specs::Replying::reply_body))]
+pub fn answer_text(
+    alloc: Global,
+    room: &mut Vec<u8>,
+    front: u64,
+    answer: &Answer<'_>,
+) -> Result<(), NoMemory>
+    ensures { OnOk result (room.new.items ≡ spec.reply_body (said_reply front (Ok (said answer.now)))) }
+{
+    match answer {
+        Answer::CategoryTree {
+            path,
+            level,
+            children,
+        } => tree_text(alloc, room, front, path, *level, *children),
+    }
 }
 
 fn copy_body(alloc: Global, body: &[u8]) -> Result<List<u8>, NoMemory>

@@ -51,7 +51,7 @@ pub struct Asks<'b> {
 
 impl<'b> Looked<'b> {
     /// Whether it is something that isn't answered yet: anything but a batch for the live version, a
-    /// row, a list of rows, or a cart.
+    /// row, a list of rows, where a category stands, a cart, or how many entries there are.
     pub fn asks_later(&self) -> bool
         ensures { result ≡ asks_later (meant self.now) }
     {
@@ -68,7 +68,11 @@ fn is_later(endpoint: Endpoint, headers: &Headers) -> bool
 {
     match endpoint {
         Endpoint::Sync => headers.version != 0,
-        Endpoint::Row | Endpoint::RowList | Endpoint::Cart => false,
+        Endpoint::Row
+        | Endpoint::RowList
+        | Endpoint::CategoryTree
+        | Endpoint::Cart
+        | Endpoint::Front => false,
         _ => true,
     }
 }

@@ -2,6 +2,7 @@
 use Rattle.std.proofs.Common.{◌≡◌, ℕ, ℤ, pos, ◌+◌, ◌≤◌, List, [], ◌∷◌, ◌++◌, refl, sym, ap, ◌∙◌, subst, inl, inr, append_assoc, append-nil, Option, Some, None, arith, rules}
 use Rattle.std.specs.Io.KnownBytes.{Consumes, Appends, IsAtEnd}
 use Rattle.shop_outside.specs.Clocks.{Ticks}
+use Rattle.idx_copy.specs.Copies.{CopyView}
 use Rattle.shop_core.specs.History.{State}
 use Rattle.shop_server.specs.declared.refusal.Refusal.{Refusal}
 use Rattle.shop_http.specs.Requests.{Asked, Cuts, Ending, open_at, refused, closing, spent, requests}
@@ -51,13 +52,20 @@ moment_ticks (Some told) = (refl, λ k. refl)
 
 -- a request of a form, answered by the rows
 abbrev worked : DeskView → Form → Asked → Served
-worked desk form ask = record { form = form; last = ask.last; moment = next_moment desk.coming; way = worked_out }
+worked desk form ask = record { form = form; last = ask.last; moment = next_moment desk.coming; published = 0; way = worked_out }
 
 abbrev left_behind : DeskView → Served → DeskView
 left_behind desk one =
     let state = after_served (stand_of desk) one in
     record {
-      answerer = record { rows = state.rows; number = state.number; content = desk.answerer.content; faults = desk.answerer.faults };
+      answerer = record {
+        rows = state.rows;
+        number = state.number;
+        content = desk.answerer.content;
+        faults = desk.answerer.faults;
+        copy = desk.answerer.copy;
+        pending = desk.answerer.pending;
+      };
       coming = later desk.coming;
     }
 
@@ -66,7 +74,7 @@ answers_so : (desk : DeskView) (form : Form) (ask : Asked) → IsOf ask.request 
 answers_so desk form ask is = record {
   form = is;
   last = refl;
-  may = tt;
+  may = (tt, omega arith);
   text = refl;
   left = refl;
   counts = refl;
@@ -192,7 +200,8 @@ module _ (first last : DeskView) (all before : List ℕ) (left' written' : Optio
 pub unwritten : (state : State) (coming : Option (ℕ → ℤ)) (faults now : ℕ) → faults ≤ now → (all before : List ℕ) (written : Option (List ℕ)) (number : ℕ)
     → written ≡ Some before → IsCutShort number → HasWritten state coming faults now all before written number
 unwritten state coming faults now rises all before written number e short =
-    let desk : DeskView = record { answerer = record { rows = state.rows; number = state.number; content = None; faults = faults }; coming = coming } in
+    let copy : CopyView = record { front = state.number; rows = state.rows; tables = record { paths = [] } } in
+    let desk : DeskView = record { answerer = record { rows = state.rows; number = state.number; content = None; faults = faults; copy = copy; pending = [] }; coming = coming } in
     let cuts : Cuts Refusal = requests cut most_requests all in
     let answers = answers_exist desk cuts.asked in
     let output : List ℕ = answers.0 ++ fatal_end cuts.ending in

@@ -12,6 +12,8 @@ use Rattle.shop_core.specs.declared.answers.Reply.{Reply}
 use Rattle.shop_core.specs.declared.answers.Reply.TheVariants as replies
 use Rattle.shop_core.specs.declared.answers.Request as shop
 use Rattle.shop_core.specs.declared.answers.Request.TheVariants as requests
+use Rattle.shop_core.specs.Indexed.{indexed_answer}
+use Rattle.shop_core.specs.Publishing.{OnlyPublishes}
 use Rattle.shop_core.specs.Requests.{answered, cart_answer, listing, reading, with_bare}
 use Rattle.shop_core.specs.Steps.{Stepped, accepted, refused, unbuilt, step, IsAccepted}
 use Rattle.shop_core.specs.History.{State, after_step}
@@ -73,6 +75,7 @@ pub record Served : Type 0 where
   pub form : Form
   pub last : Bool  -- the connection is closed after it
   pub moment : ℤ  -- the moment that the clock gave for it
+  pub published : ℕ  -- the front of the published copy
   pub way : Way
 
 -- ---- one reply
@@ -92,18 +95,19 @@ shown (Err broken) = replies.Refused (record { op = 0; broken = broken })
 abbrev pub write_at : State → Command → ℤ → Stepped
 write_at state command moment = step state.rows state.number command moment
 
--- the reply to a request by the rows, and to a cart by the moment too: to one of those that aren't built yet, that it isn't
-abbrev pub reply_to : State → shop.Request → ℤ → Reply
-reply_to state (requests.Write command) moment = written (state.number + 1) (write_at state command moment)
-reply_to state (requests.Row read) moment = shown (answered replies.Row (reading state.rows read))
-reply_to state (requests.RowList entity id second) moment = shown (answered replies.RowList (with_bare (listing state.rows entity id second)))
-reply_to state (requests.Cart cart) moment = shown (cart_answer state.rows state.number cart moment)
-reply_to state (requests.Indexed query min_front) moment = replies.Line lines.NotBuilt
-reply_to state requests.Front moment = replies.Line lines.NotBuilt
+-- The reply to a request by the rows, and to a cart by the moment too. A question about all rows is answered over all that were
+-- accepted; only how far the published copy is, which is asked for as such, hangs on more than the rows and their number.
+abbrev pub reply_to : State → ℕ → shop.Request → ℤ → Reply
+reply_to state published (requests.Write command) moment = written (state.number + 1) (write_at state command moment)
+reply_to state published (requests.Row read) moment = shown (answered replies.Row (reading state.rows read))
+reply_to state published (requests.RowList entity id second) moment = shown (answered replies.RowList (with_bare (listing state.rows entity id second)))
+reply_to state published (requests.Cart cart) moment = shown (cart_answer state.rows state.number cart moment)
+reply_to state published (requests.Indexed query min_front) moment = indexed_answer state.rows state.number query min_front
+reply_to state published requests.Front moment = replies.Front state.number published
 
-abbrev pub reply : State → Form → ℤ → Reply
-reply state (asks request) moment = reply_to state request moment
-reply state (turned_away fault allow) moment = replies.Line fault
+abbrev pub reply : State → ℕ → Form → ℤ → Reply
+reply state published (asks request) moment = reply_to state published request moment
+reply state published (turned_away fault allow) moment = replies.Line fault
 
 -- the method that the response names
 abbrev pub allowed : Form → Option Method2
@@ -115,13 +119,13 @@ abbrev pub reply_text : Reply → Option Method2 → Bool → List ℕ
 reply_text reply allow last = response_text (reply_status reply) (reply_body reply) allow last
 
 -- the bytes of the response, by how the answer came about
-abbrev pub text_by : Way → State → Form → ℤ → Bool → List ℕ
-text_by worked_out state form moment last = reply_text (reply state form moment) (allowed form) last
-text_by short state form moment last = no_memory_text last
-text_by failed state form moment last = reply_text replies.StoreFailed None last
+abbrev pub text_by : Way → State → ℕ → Form → ℤ → Bool → List ℕ
+text_by worked_out state published form moment last = reply_text (reply state published form moment) (allowed form) last
+text_by short state published form moment last = no_memory_text last
+text_by failed state published form moment last = reply_text replies.StoreFailed None last
 
 abbrev pub served_text : State → Served → List ℕ
-served_text state one = text_by one.way state one.form one.moment one.last
+served_text state one = text_by one.way state one.published one.form one.moment one.last
 
 -- ---- what a request leaves
 
@@ -150,8 +154,9 @@ MayComeBy worked_out state form moment = Unit {0}
 MayComeBy short state form moment = Unit {0}
 MayComeBy failed state form moment = IsAcceptedWrite state form moment
 
+-- and no more entries are published than are accepted
 abbrev pub MayBe : State → Served → Type 0
-MayBe state one = MayComeBy one.way state one.form one.moment
+MayBe state one = MayComeBy one.way state one.form one.moment × (one.published ≤ state.number)
 
 -- what is seen of a shop and of its clock
 abbrev pub DeskView : Type 0
@@ -166,9 +171,9 @@ Counts before now worked_out = now ≡ before
 Counts before now short = now ≡ before
 Counts before now failed = (before ≤ now) × Rose before now
 
--- where memory ran out, all is as before: the rows, their number, what the keeper holds, and its count of faults
+-- where memory ran out, all but what is published is as before: the rows, their number, what the keeper holds, and its count of faults
 abbrev pub IsUntouched : Way → ShopView → ShopView → Type 0
-IsUntouched short old new = new ≡ old
+IsUntouched short old new = OnlyPublishes old new
 IsUntouched way old new = Unit {0}
 
 -- A request was answered by these bytes so, and left that.
@@ -257,7 +262,7 @@ FewAreAccepted = (old new : DeskView) (asked : List Asked) (out : List ℕ) → 
 -- What a form was answered by, so and with these bytes, and what that left.
 pub record ServesBy (way : Way) (old : ShopView) (form : Form) (moment : ℤ) (last : Bool) (out : List ℕ) (new : ShopView) : Type 0 where
   pub may : MayComeBy way (state_of old) form moment
-  pub text : out ≡ text_by way (state_of old) form moment last
+  pub text : out ≡ text_by way (state_of old) old.copy.front form moment last
   pub left : state_of new ≡ left_by way (state_of old) form moment
   pub counts : Counts old.faults new.faults way
   pub untouched : IsUntouched way old new

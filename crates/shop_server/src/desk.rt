@@ -3,6 +3,9 @@ ghost use Rattle.std.specs.Prelude.{◌≡◌, ◌++◌, ℕ, ℤ, List, IfOk, O
 ghost use Rattle.shop_outside.specs.Clocks.{IsMoment};
 ghost use Rattle.shop_core.specs.declared.answers.Reply.TheVariants as replies;
 ghost use Rattle.shop_core.specs.declared.answers.Request.TheVariants as requests;
+ghost use Rattle.shop_meanings.specs.Direct.{IsAsked};
+ghost use Rattle.shop_core.specs.Indexed.{direct_reply, indexed_answer};
+ghost use Rattle.shop_core.specs.Publishing.{OnlyPublishes};
 ghost use Rattle.shop_core.specs.Requests.{IsBuiltRequest, answered, cart_answer, listing, reading, with_bare};
 ghost use Rattle.shop_core.specs.Shops.{IsShop};
 ghost use Rattle.shop_core.specs.Steps.{IsBuilt};
@@ -15,15 +18,15 @@ ghost use Rattle.shop_server.specs.Cutting.{IsServed};
 use crate::answerer::Answerer;
 use crate::turned::TurnedAway;
 use cart_loop::CartRefused;
-use shop_core::{AskFault, CommitFault, Reply, Request, ShopState};
+use shop_core::{AskFault, CommitFault, Reply, Request, ShopState, refused_at};
 use shop_defs::{Broken, NoMemory, Refused};
 use shop_http::{Head, Method2, put_response};
 use shop_json::{
-    cart_text, put_done, put_store_failed, read_body, reply_text, reserve_done, seen_list_text,
-    seen_row_text,
+    answer_text, cart_text, put_done, put_store_failed, read_body, reply_text, reserve_done,
+    seen_list_text, seen_row_text,
 };
 use shop_outside::{Keeper, Moment};
-use shop_requests::{Command, LineFault, RowRead};
+use shop_requests::{Command, LineFault, Query, RowRead};
 use shop_routes::{Asks, Looked};
 use std::alloc::Global;
 use std::marker::Model;
@@ -112,8 +115,8 @@ fn respond(
     put_response(out, status, body.as_slice(), allow, last)
 }
 
-/// Carries out a command. The room for the response to an accepted one is taken before, so that where memory runs out nothing is
-/// changed.
+/// Carries out a command. The room for the response to an accepted one is taken before, so that where memory runs out nothing but
+/// what is published is changed.
 fn write<P: Keeper + Drop>(
     alloc: Global,
     shop: &mut ShopState<P>,
@@ -126,7 +129,7 @@ fn write<P: Keeper + Drop>(
     requires moment { IsMoment moment }
     ensures ok { OnOk result ((way : Way) × (response : List ℕ) × ServesBy way shop.old (asks (requests.Write command.now)) moment last response shop.new
         × (out.new.items ≡ out.old.items ++ response)) }
-    ensures err { OnErr result ((shop.new ≡ shop.old) × (out.new.items ≡ out.old.items)) }
+    ensures err { OnErr result (OnlyPublishes shop.old shop.new × (out.new.items ≡ out.old.items)) }
 {
     reserve_done(out)?;
     match shop.commit(alloc, command, moment) {
@@ -143,6 +146,26 @@ fn write<P: Keeper + Drop>(
         }
         Err(CommitFault::NoMemory) => Err(NoMemory),
     }
+}
+
+/// Carries out a command, and then publishes what it changed. A write stands also where no memory is left for that.
+fn write_and_publish<P: Keeper + Drop>(
+    alloc: Global,
+    shop: &mut ShopState<P>,
+    command: &Command,
+    moment: Moment,
+    last: bool,
+    out: &mut Vec<u8>,
+) -> Result<(), NoMemory>
+    requires built { IsBuilt command.now }
+    requires moment { IsMoment moment }
+    ensures ok { OnOk result ((way : Way) × (response : List ℕ) × ServesBy way shop.old (asks (requests.Write command.now)) moment last response shop.new
+        × (out.new.items ≡ out.old.items ++ response)) }
+    ensures err { OnErr result (OnlyPublishes shop.old shop.new × (out.new.items ≡ out.old.items)) }
+{
+    let put = write(alloc, shop, command, moment, last, out);
+    let _ = shop.catch_up(alloc);
+    put
 }
 
 /// Puts the response to a read that breaks a rule.
@@ -225,6 +248,92 @@ fn price<P: Keeper + Drop>(
     }
 }
 
+/// Catches up, and shows what a cart is settled at.
+fn price_all<P: Keeper + Drop>(
+    alloc: Global,
+    shop: &mut ShopState<P>,
+    room: &mut Vec<u8>,
+    cart: u128,
+    moment: Moment,
+    last: bool,
+    out: &mut Vec<u8>,
+) -> Result<(), NoMemory>
+    requires moment { IsMoment moment }
+    ensures ok { OnOk result (out.new.items ≡ out.old.items ++ reply_text (shown (cart_answer shop.old.rows shop.old.number cart moment)) None last) }
+    ensures err { OnErr result (out.new.items ≡ out.old.items) }
+    ensures only { OnlyPublishes shop.old shop.new }
+{
+    let _ = shop.catch_up(alloc)?;
+    price(alloc, shop, room, cart, moment, last, out)
+}
+
+/// Shows what is known of a question about all rows, by the published copy.
+fn show_known<P: Keeper + Drop>(
+    alloc: Global,
+    shop: &ShopState<P>,
+    room: &mut Vec<u8>,
+    query: &Query,
+    last: bool,
+    out: &mut Vec<u8>,
+) -> Result<(), NoMemory>
+    requires asked { IsAsked query.now }
+    ensures ok { OnOk result (out.new.items ≡ out.old.items ++ reply_text (direct_reply shop.now.copy.rows shop.now.copy.front query.now) None last) }
+    ensures err { OnErr result (out.new.items ≡ out.old.items) }
+{
+    match shop.ask(query) {
+        Ok(answer) => {
+            answer_text(alloc, room, shop.front(), &answer)?;
+            put_response(out, 200, room.as_slice(), None, last)
+        }
+        Err(AskFault::Refused(broken)) => {
+            let reply = refused_at(shop.front(), broken);
+            respond(alloc, reply, None, last, out)
+        }
+        Err(AskFault::NoMemory) => Err(NoMemory),
+    }
+}
+
+/// Answers a question about all rows, over all entries that are accepted.
+fn tell<P: Keeper + Drop>(
+    alloc: Global,
+    shop: &mut ShopState<P>,
+    room: &mut Vec<u8>,
+    query: &Query,
+    min_front: u64,
+    last: bool,
+    out: &mut Vec<u8>,
+) -> Result<(), NoMemory>
+    requires asked { IsAsked query.now }
+    ensures ok { OnOk result (out.new.items ≡ out.old.items ++ reply_text (indexed_answer shop.old.rows shop.old.number query.now min_front) None last) }
+    ensures err { OnErr result (out.new.items ≡ out.old.items) }
+    ensures only { OnlyPublishes shop.old shop.new }
+{
+    let have = shop.accepted();
+    if min_front > have {
+        let asked = min_front;
+        return respond(alloc, Reply::FrontUnknown { asked, have }, None, last, out);
+    }
+    let _published = shop.catch_up(alloc)?;
+    show_known(alloc, shop, room, query, last, out)
+}
+
+/// Says how many entries are accepted, and how many of them are published.
+fn show_fronts<P: Keeper + Drop>(
+    alloc: Global,
+    shop: &ShopState<P>,
+    last: bool,
+    out: &mut Vec<u8>,
+) -> Result<(), NoMemory>
+    ensures ok { OnOk result (out.new.items ≡ out.old.items ++ reply_text (replies.Front shop.now.number shop.now.copy.front) None last) }
+    ensures err { OnErr result (out.new.items ≡ out.old.items) }
+{
+    let reply = Reply::Front {
+        accepted: shop.accepted(),
+        published: shop.front(),
+    };
+    respond(alloc, reply, None, last, out)
+}
+
 /// Answers what is asked of a shop.
 fn answer_request<P: Keeper + Drop>(
     alloc: Global,
@@ -239,16 +348,19 @@ fn answer_request<P: Keeper + Drop>(
     requires moment { IsMoment moment }
     ensures ok { OnOk result ((way : Way) × (response : List ℕ) × ServesBy way shop.old (asks request) moment last response shop.new
         × (out.new.items ≡ out.old.items ++ response)) }
-    ensures err { OnErr result ((shop.new ≡ shop.old) × (out.new.items ≡ out.old.items)) }
+    ensures err { OnErr result (OnlyPublishes shop.old shop.new × (out.new.items ≡ out.old.items)) }
 {
     match request {
-        Request::Write(command) => write(alloc, shop, &command, moment, last, out),
+        Request::Write(command) => write_and_publish(alloc, shop, &command, moment, last, out),
         Request::Row(read) => show(alloc, shop, room, &read, last, out),
         Request::RowList { entity, id, second } => {
             list(alloc, shop, room, entity.as_bytes(), id, second, last, out)
         }
-        Request::Cart { cart } => price(alloc, shop, room, cart, moment, last, out),
-        _ => unreachable!(),
+        Request::Cart { cart } => price_all(alloc, shop, room, cart, moment, last, out),
+        Request::Indexed { query, min_front } => {
+            tell(alloc, shop, room, &query, min_front, last, out)
+        }
+        Request::Front => show_fronts(alloc, shop, last, out),
     }
 }
 
@@ -267,6 +379,8 @@ impl<P: Keeper + Drop> Answerer for Desk<P> {
         last: bool,
         out: &mut Vec<u8>,
     ) -> Result<(), NoMemory> {
+        // What always holds of a shop is known once it is read.
+        let _front = self.shop.front();
         match request_in(alloc, looked, body) {
             Ok(request) => answer_request(
                 alloc,

@@ -6,8 +6,8 @@
 //!   has them in plain words).
 //! - `serve` is the loop of a connection over any link, any way to cut requests off, any answerer
 //!   and any clock: it ends in a `Session` whose requests, bytes and way of ending fit, with one
-//!   moment of the clock for each request, and its faults have their cause. Answers to requests that
-//!   were read already are written together.
+//!   moment of the clock for each request, and its faults have their cause. That answers to requests
+//!   that were read already are written together is how it is written; no clause speaks of it.
 //! - A `Desk`, which is a shop, answers as `Gives` says: by the rows, by the fixed 507, which leaves
 //!   all as it was, or, at a write that would be accepted, by 503 where the keeper's count rose.
 //! - `law_of_the_replies`: the answers are a fold over the rows, with the moments that the clock

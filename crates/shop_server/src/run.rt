@@ -100,7 +100,7 @@ fn run<S: Source, K: Sink, P: Keeper + Drop, C: Clock>(
 /// | 5 | the keeper failed when it was opened: only where its count of faults rose |
 /// | 6 | the input ended inside a request |
 /// | 7 | what the keeper holds is damaged |
-/// | 9 | memory for the rows, the buffer or the report was refused |
+/// | 9 | memory for the paths, the rows, the buffer or the report was refused |
 /// | 10 | 1,000,000 requests were answered |
 /// | 12 | what was left is no request however it goes on, or a request whose answer isn't there yet: it was refused |
 pub fn run_shop<S: Source, K: Sink, P: Keeper + Drop, C: Clock>(

@@ -26,7 +26,9 @@ pub(crate) const READ_OTHER: &[u8] =
 pub(crate) const READ_CUT: &[u8] =
     b"GET /row/category/00000000000000000000000000000010 HTTP/1.1\r\n\r";
 
-pub(crate) const FRONT: &[u8] = b"GET /front HTTP/1.1\r\n\r\n";
+// What isn't answered yet.
+pub(crate) const LATER: &[u8] =
+    b"GET /product/00000000000000000000000000000020/price HTTP/1.1\r\n\r\n";
 
 // A write and a read as `curl` sends them.
 pub(crate) const CURL_WRITE: &[u8] =

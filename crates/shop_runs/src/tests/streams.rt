@@ -71,14 +71,14 @@ pub(crate) static STREAMS: [Run<'static>; 17] = [
     },
     Run {
         says: "an answer that isn't there yet",
-        input: &[FRONT],
+        input: &[LATER],
         output: &[NOT_BUILT],
         status: 12,
         ..EMPTY
     },
     Run {
         says: "nothing is answered behind it",
-        input: &[WRITE, FRONT, READ],
+        input: &[WRITE, LATER, READ],
         output: &[DONE_1, NOT_BUILT],
         status: 12,
         kept: &[TEN],

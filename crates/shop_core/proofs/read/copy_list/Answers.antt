@@ -6,6 +6,6 @@ use Rattle.shop_core.proofs.read.copy_list.Goals as goal
 
 pub returns : goal.returns
 returns c =
-    rw c.in_ok-listed.ensures
+    rw c.in_ok-listed.ensures.rows
     (ap Ok (map-map bare (λ (row : Bor Row). row.now) c.in_ok-listed.listed.items
     ∙ (ap (λ (rows : List (Bor Row)). map (λ row. bare row.now) rows) (sym c.as_slice.ensures.value) ∙ sym c.in_ok-copy_bare.ensures)))
