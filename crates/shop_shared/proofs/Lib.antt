@@ -1,0 +1,16 @@
+pub mod Prefixes
+pub mod Entries
+pub mod LooksMore
+pub mod EachSeat
+pub mod Building
+pub mod Keeping
+pub mod Doors
+pub mod Holds
+pub mod Counts
+pub mod Asks
+pub mod Beginning
+pub mod Passing
+pub mod Looking
+pub mod Leading
+pub mod Committing
+pub mod Writing
