@@ -7,8 +7,9 @@
 //!   `BadJson` exactly where it has no reading, or `BadShape` with a pointer to the first wrong
 //!   place (`answer`). A batch that is read has 1 to 1,000 operations, each with an id, and the
 //!   names of each one's fields ascend.
-//! - Two laws say in words what a pointer names: the first wrong place, and of unknown members the
-//!   least.
+//! - `read_draft`, `read_amount` and `read_order` read the bodies that are objects in the same way.
+//! - Two laws say in words what the pointer of a batch names: the first wrong place, and of unknown
+//!   members the least.
 #![tactic(auto)]
 
 mod batch;

@@ -11,7 +11,7 @@
 //!   amount (`sum`), each stands under its rate, between 0 and its base (`parts`), and is the whole
 //!   units of its exact share or one more (`floors`); and no other sharing by whole units has a
 //!   smaller largest deviation from the exact shares (`fairest`).
-//! - `cart_sums` and `cart_process` call these; no request leads to them yet.
+//! - `cart_sums` and `cart_process` call these, and `GET /cart` leads to them.
 #![tactic(auto)]
 
 mod amounts;

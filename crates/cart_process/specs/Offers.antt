@@ -30,7 +30,8 @@ has_begun moment promotion = option_map_or (λ from. le_z from moment) (int_at p
 abbrev pub goes_on : ℤ → Row → Bool
 goes_on moment promotion = option_map_or (λ until. lt_z moment until) (int_at promotion (number_of E.Promotion N.UntilMoment)) true
 
--- a promotion counts: it is active, its code is given, the moment is one of its moments, and its rule holds
+-- a promotion counts: it is active, its code, if it has one, is given, the moment is one of its moments, and its rule, if it has
+-- one, holds
 abbrev pub counts : ℤ → List Row → List ℕ → Row → Bool
 counts moment given rules promotion =
     is_set promotion (number_of E.Promotion N.Active)

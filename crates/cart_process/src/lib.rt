@@ -8,10 +8,12 @@
 //!   what keeps it from being ordered; what promotions take off the goods; the delivery, or what keeps
 //!   it from being ordered; what promotions take off that; the taxes of all positions; and the total.
 //!   Want of memory is its only error.
-//! - Which price row decides, in words (`choice`): no rule that holds has one, and none decides; or the
-//!   first that has one says which, of its rows for so many pieces the one from the most pieces on.
-//! - Which price of a delivery is taken, in words (`shipping`): that of the first rule that holds and has
-//!   one that may be used, and where none has, one for no rule; from the highest bound on.
+//! - Which price row decides, in words, a law on the definition (`choice`): no rule that holds has one,
+//!   and none decides; or the first that has one says which, of its rows for so many pieces the one from
+//!   the most pieces on.
+//! - Which price of a delivery is taken, in words, a law on the definition (`shipping`): that of the first
+//!   rule that holds and has one that may be used, and where none has, one for no rule; from the highest
+//!   bound on. That the cart's prices are these says `value` alone.
 //! - What is shown adds up (`sum`). The goods are the lines' totals together. Each discount is above 0,
 //!   there are at most 50 on the goods and as many on the delivery, and they come to no more than what
 //!   they are taken off. The tax is that of all rates. `raw` is what is left of the goods and of the
