@@ -6,3 +6,5 @@ pub mod MemLines
 pub mod Bodies
 pub mod MemKeeping
 pub mod Scanning
+pub mod Counting
+pub mod MemJobs

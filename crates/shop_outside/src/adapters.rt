@@ -26,7 +26,7 @@ impl<R: Read> ReaderSource<R> {
 
 /// Reads, and again for as long as a signal interrupts the call (POSIX's `EINTR`).
 #[tactic(auto, using(crate::proofs::Known::reading))]
-fn read_again<R: Read>(inner: &mut R, into: &mut [u8]) -> Result<usize, Failed>
+pub(crate) fn read_again<R: Read>(inner: &mut R, into: &mut [u8]) -> Result<usize, Failed>
     ensures within { IfOk result (λ n. n ≤ length into.new) }
     ensures bytes { ReadConsumes (R.remaining inner.old) (R.remaining inner.new) result into.new }
 {
@@ -79,7 +79,7 @@ impl<W: Write> WriterSink<W> {
 /// Writes, and again for as long as a signal interrupts the call (POSIX's `EINTR`). A writer that
 /// takes none of a piece that isn't empty has failed.
 #[tactic(auto, using(crate::proofs::Known::writing))]
-fn write_again<W: Write>(inner: &mut W, piece: &[u8]) -> Result<usize, Failed>
+pub(crate) fn write_again<W: Write>(inner: &mut W, piece: &[u8]) -> Result<usize, Failed>
     ensures takes { Takes piece.now result }
     ensures bytes { WriteAppends (W.contents inner.old) (W.contents inner.new) result piece.now }
 {

@@ -2,13 +2,16 @@
 ghost use Rattle.std.specs.Prelude.{◌≤◌, IfOk};
 
 use crate::{
-    Clock, Failed, FixedClock, KeepFault, Keeper, Kept, MemKeeper, MemSink, MemSource,
-    ReaderSource, Sink, Source, WriterSink,
+    Clock, Failed, FixedClock, Gate, Job, KeepFault, Keeper, Kept, Listener, MemKeeper, MemLink,
+    MemListener, MemSink, MemSource, MemSpawner, ReaderSource, Sink, Source, SystemClock, TcpLink,
+    TcpPort, ThreadSpawner, WaitGate, WriterSink, start_job,
 };
 use shop_defs::{Entity, Key, List};
-use std::io;
 use std::io::{ErrorKind, Read, Write};
+use std::net::TcpStream;
+use std::sync::Wait;
 use std::test::Fail;
+use std::{io, thread};
 
 /// What reads of four bytes give; a failed one gives none.
 type Reads = &'static [Option<&'static [u8]>];
@@ -225,4 +228,115 @@ fn keepers_and_clocks_in_memory(rt: HostRuntime) -> Result<(), Fail> {
         assert!(rt; clock.now() == want);
     }
     Ok(())
+}
+
+/// Gives back over a link what comes over it, once, and then the link.
+#[derive(Drop)]
+struct Echo {
+    link: TcpLink,
+}
+
+impl Job for Echo {
+    ghost use Rattle.std.specs.Prelude.{true};
+
+    type Out = TcpLink;
+
+    ghost CONNECTION = { true };
+
+    const CONNECTION: bool = true;
+
+    fn run<R: Wait>(self, _rt: &R) -> TcpLink {
+        let Echo { mut link } = self;
+        let mut place = [0; 4];
+        if let Ok(count) = link.read(&mut place) {
+            // The other end sees what came.
+            let _ = link.write(&place[..count]);
+        }
+        link
+    }
+}
+
+/// Does nothing.
+#[derive(Drop)]
+struct Rest;
+
+impl Job for Rest {
+    ghost use Rattle.std.specs.Prelude.{false};
+
+    type Out = ();
+
+    ghost CONNECTION = { false };
+
+    const CONNECTION: bool = false;
+
+    fn run<R: Wait>(self, _rt: &R) {}
+}
+
+/// Whether calls give a link, say that there is none, or fail, as a listener of two links does whose second call is to fail.
+const ACCEPTED: [Option<bool>; 5] = [Some(true), None, Some(true), Some(false), Some(false)];
+
+fn open_once_reached(gate: &WaitGate) {
+    for _ in 0..1_000_000 {
+        if gate.reached() {
+            break;
+        }
+        thread::yield_now();
+    }
+    gate.open();
+}
+
+#[test]
+fn listeners_and_spawners_in_memory_fail_where_told(rt: HostRuntime) -> Result<(), Fail> {
+    let mut links = Vec::new(rt.alloc());
+    for _ in 0..2 {
+        let given = Vec::from_slice(rt.alloc(), b"0123")?;
+        let source = MemSource::new(given, 4, Vec::new(rt.alloc()));
+        let sink = MemSink::new(Vec::with_capacity(rt.alloc(), 2)?, 4, Vec::new(rt.alloc()));
+        links.push(MemLink { source, sink })?;
+    }
+    let mut listener = MemListener::new(links, vec![in rt.alloc(); 2]?);
+    for want in ACCEPTED {
+        let holds = match listener.accept() {
+            Ok(Some(mut link)) => {
+                want == Some(true)
+                    && gives(&mut link, &[Some(b"0123"), Some(b"")])
+                    && takes(&mut link, b"abc", &[Some(2), None])
+            }
+            Ok(None) => want == Some(false),
+            Err(Failed) => want.is_none(),
+        };
+        assert!(rt; holds);
+    }
+    let mut spawner = MemSpawner::new(vec![in rt.alloc(); 2]?);
+    for want in [true, false, true] {
+        assert!(rt; start_job(&rt, &mut spawner, Rest).is_ok() == want);
+    }
+    assert!(rt; spawner.others() == 2 && spawner.connections() == 0);
+    Ok(())
+}
+
+#[test]
+fn a_thread_answers_over_tcp(rt: HostRuntime) -> Result<(), Fail> {
+    let mut port = TcpPort::bind(&rt, "127.0.0.1:0")?;
+    let stream = TcpStream::connect(&rt, port.address()?)?;
+    let mut spawner = ThreadSpawner::new();
+    let echo = Echo {
+        link: TcpLink::new(stream),
+    };
+    assert!(rt; start_job(&rt, &mut spawner, echo).is_ok());
+    let Ok(Some(mut link)) = port.accept() else {
+        panic!(rt);
+    };
+    assert!(rt; takes(&mut link, b"sent", &[Some(4)]));
+    assert!(rt; gives(&mut link, &[Some(b"sent"), Some(b"")]));
+    let mut clock = SystemClock::new(rt);
+    assert!(rt; clock.now() > 1_700_000_000);
+    Ok(())
+}
+
+#[test]
+fn a_gate_holds_until_it_is_opened(rt: HostRuntime) {
+    let gate = WaitGate::closed();
+    thread::join(&rt, || gate.hold(), || open_once_reached(&gate));
+    assert!(rt; gate.opened());
 }
