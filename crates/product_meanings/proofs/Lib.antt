@@ -1,3 +1,4 @@
 pub mod Picked
 pub mod Prices
 pub mod Worked
+pub mod Answering

@@ -1,14 +1,18 @@
 -- What holds of the meanings, in rows as a shop has them.
-use Rattle.std.specs.Prelude.{◌≡◌, ℕ, ◌≤◌, ◌≤ℤ◌, Bool, false, List, [], ◌∷◌, Some, None}
+use Rattle.std.specs.Prelude.{◌≡◌, ℕ, ◌≤◌, ◌≤ℤ◌, Bool, false, List, [], ◌∷◌, Some, None, Ok, Err}
 use Rattle.std.specs.List.{AllByRecursion}
 use Rattle.std.specs.Option.{option_map_or}
 use Rattle.std.specs.Ordering.{nat_cmp}
 use Rattle.closure.specs.Closure.{IsIn}
 use Rattle.keyed.specs.Keyed.{Ascends}
+use Rattle.shop_defs.specs.declared.broken.Broken.TheVariants.{NoSuchRow}
 use Rattle.shop_defs.specs.declared.row.Row.{Row}
+use Rattle.shop_defs.specs.Rows.{row_at}
+use Rattle.shop_requests.specs.declared.query.Query.{Query}
 use Rattle.shop_meanings.specs.Live.{AreOrderly}
 use Rattle.product_meanings.specs.Products.{product, is_among, picked}
 use Rattle.product_meanings.specs.Listings.{Offer, price_of}
+use Rattle.product_meanings.specs.Direct.{Told, asked_key, direct}
 
 -- the ids of the products that pass a test
 pub record ArePicked (test : Row → Bool) (rows : List Row) : Type 0 where
@@ -39,3 +43,11 @@ pub record PriceIsOfOffers (all : List Offer) : Type 0 where
 
 abbrev pub PricesOfAll : Type 0
 PricesOfAll = (all : List Offer) → PriceIsOfOffers all
+
+-- a question is answered just where the live row that it names is there
+pub record AnswersAreOfRows (rows : List Row) : Type 0 where
+  pub there : (query : Query) (row : Row) → row_at rows (asked_key query) ≡ Some row → record { told : Told; is : direct rows query ≡ Ok told }
+  pub missing : (query : Query) → row_at rows (asked_key query) ≡ None → direct rows query ≡ Err (NoSuchRow (asked_key query))
+
+abbrev pub AnswersOfAllAreOfRows : Type 0
+AnswersOfAllAreOfRows = (rows : List Row) → AnswersAreOfRows rows

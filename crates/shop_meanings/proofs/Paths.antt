@@ -4,7 +4,6 @@ use Rattle.std.specs.Prelude.{filter, map, count_by, Result}
 use Rattle.std.specs.Option.{option_map}
 use Rattle.std.proofs.lemmas.Bool.{and_parts}
 use Rattle.std.proofs.lemmas.List.Sums.{length-filter}
-use Rattle.shop_defs.specs.declared.broken.Broken.{Broken}
 use Rattle.shop_defs.specs.declared.entity.Entity.TheVariants as E
 use Rattle.shop_defs.specs.declared.row.Row.{Row}
 use Rattle.shop_defs.specs.declared.table.TheConstants.{REFERENCES, MOST_ROWS}
@@ -13,10 +12,7 @@ use Rattle.shop_operations.specs.References.{is_entity, is_id, is_live, of_versi
 use Rattle.shop_soundness.proofs.Lists.{count_under}
 use Rattle.shop_meanings.specs.Live.{live_key, live_rows, AreOrderly}
 use Rattle.shop_meanings.specs.Categories.{above, walk, path, children_of, standing_of}
-use Rattle.shop_requests.specs.declared.query.Query.{Query}
-use Rattle.shop_requests.specs.declared.query.Query.TheVariants as Q
-use Rattle.shop_meanings.specs.Direct.{Meant, tree, or_missing, IsDirect}
-use Rattle.shop_meanings.specs.Laws.{PathsOfAllGoUp, ChildrenOfAllAreCounted, DirectOfAllIsOfLiveRows}
+use Rattle.shop_meanings.specs.Laws.{PathsOfAllGoUp, ChildrenOfAllAreCounted}
 use Rattle.shop_meanings.proofs.Levels.{most_levels, enough, low_all, all_live}
 use Rattle.shop_meanings.proofs.Walks.{walk_root, walk_step, walk_from_root}
 
@@ -74,18 +70,3 @@ few rows orderly id =
 
 pub children_are_counted : ChildrenOfAllAreCounted
 children_are_counted rows = record { count = counted rows; few = few rows }
-
--- ---- answers
-
-one_answer : (rows : List Row) (query : Query) (one other : Result Meant Broken) → IsDirect rows query one → IsDirect rows query other → one ≡ other
-one_answer rows (Q.CategoryTree category) one other e f = e ∙ sym f
-one_answer rows (Q.StreamMembers stream) one other e f = absurd e
-one_answer rows (Q.ListingPrice product) one other e f = absurd e
-one_answer rows (Q.Listing category page) one other e f = absurd e
-
-pub direct_is_of_live_rows : DirectOfAllIsOfLiveRows
-direct_is_of_live_rows rows = record {
-  once = one_answer rows;
-  there = λ category row e. sym (ap (λ (o : Option Row). or_missing (live_key E.Category category) (option_map tree (option_map (λ _. standing_of (path rows category) (children_of rows category)) o))) e);
-  missing = λ category e. sym (ap (λ (o : Option Row). or_missing (live_key E.Category category) (option_map tree (option_map (λ _. standing_of (path rows category) (children_of rows category)) o))) e);
-}

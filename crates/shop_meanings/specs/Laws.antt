@@ -1,18 +1,13 @@
 -- What holds of the meanings, in rows as a shop has them.
-use Rattle.std.specs.Prelude.{◌≡◌, ℕ, ◌≤◌, ◌<◌, true, is_some, count_by, List, [], ◌∷◌, ◌++◌, length, Some, None, Result, Ok, Err}
+use Rattle.std.specs.Prelude.{◌≡◌, ℕ, ◌≤◌, ◌<◌, true, is_some, count_by, List, [], ◌∷◌, ◌++◌, length, Some, None}
 use Rattle.std.specs.List.{list_all}
-use Rattle.shop_defs.specs.declared.broken.Broken.{Broken}
-use Rattle.shop_defs.specs.declared.broken.Broken.TheVariants.{NoSuchRow}
 use Rattle.shop_defs.specs.declared.entity.Entity.TheVariants as E
 use Rattle.shop_defs.specs.declared.row.Row.{Row}
 use Rattle.shop_defs.specs.declared.table.TheConstants.{REFERENCES, MOST_ROWS}
 use Rattle.shop_operations.specs.Parents.{parent_id}
 use Rattle.shop_operations.specs.References.{is_id}
-use Rattle.shop_requests.specs.declared.query.Query.{Query}
-use Rattle.shop_requests.specs.declared.query.Query.TheVariants as Q
-use Rattle.shop_meanings.specs.Live.{live_key, live_row, live_rows, AreOrderly}
-use Rattle.shop_meanings.specs.Categories.{above, walk, path, children_of, standing_of}
-use Rattle.shop_meanings.specs.Direct.{Meant, tree, IsDirect}
+use Rattle.shop_meanings.specs.Live.{live_row, live_rows, AreOrderly}
+use Rattle.shop_meanings.specs.Categories.{above, walk, path, children_of}
 
 -- where the categories of such rows stand
 pub record PathsGoUp (rows : List Row) : Type 0 where
@@ -39,12 +34,3 @@ pub record ChildrenAreCounted (rows : List Row) : Type 0 where
 
 abbrev pub ChildrenOfAllAreCounted : Type 0
 ChildrenOfAllAreCounted = (rows : List Row) → ChildrenAreCounted rows
-
--- a question has one answer at most, and is refused just where the row that it names isn't there
-pub record DirectIsOfLiveRows (rows : List Row) : Type 0 where
-  pub once : (query : Query) (one other : Result Meant Broken) → IsDirect rows query one → IsDirect rows query other → one ≡ other
-  pub there : (category : ℕ) (row : Row) → live_row rows E.Category category ≡ Some row → IsDirect rows (Q.CategoryTree category) (Ok (tree (standing_of (path rows category) (children_of rows category))))
-  pub missing : (category : ℕ) → live_row rows E.Category category ≡ None → IsDirect rows (Q.CategoryTree category) (Err (NoSuchRow (live_key E.Category category)))
-
-abbrev pub DirectOfAllIsOfLiveRows : Type 0
-DirectOfAllIsOfLiveRows = (rows : List Row) → DirectIsOfLiveRows rows

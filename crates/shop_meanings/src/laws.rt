@@ -1,5 +1,5 @@
 //! What holds of the meanings, in functions that do no work.
-ghost use Rattle.shop_meanings.specs.Laws.{PathsOfAllGoUp, ChildrenOfAllAreCounted, DirectOfAllIsOfLiveRows};
+ghost use Rattle.shop_meanings.specs.Laws.{PathsOfAllGoUp, ChildrenOfAllAreCounted};
 ghost use Rattle.shop_meanings.specs.WorkedRows.{ShirtsAreMoved};
 
 /// A path goes from a root down to the parent, and a walk of 31 steps comes as far as one of as many
@@ -11,11 +11,6 @@ pub fn law_of_the_paths()
 /// How many children a category has.
 pub fn law_of_the_children()
     ensures { ChildrenOfAllAreCounted }
-{}
-
-/// When a question is answered, and with what.
-pub fn law_of_the_answers()
-    ensures { DirectOfAllIsOfLiveRows }
 {}
 
 /// A category that is moved, as the definitions have it.
