@@ -1,3 +1,5 @@
 pub mod FieldNumbers
 pub mod Repriced
 pub mod Counts
+pub mod Relisted
+pub mod Pages

@@ -1,6 +1,6 @@
 -- The law: a product that no change touches is listed at the same price before and after.
-use Rattle.std.proofs.Common.{◌≡◌, ℕ, Bool, true, false, ◌==◌, ◌&&◌, ◌||◌, ◌⊎◌, inl, inr, List, [], ◌∷◌, ◌++◌, map, filter, Option, Some, None, if◌then◌else◌, refl, sym, ap, subst, ◌∙◌, true≢false}
-use Rattle.std.specs.List.{list_any, flat_map, filter_map, cons_option}
+use Rattle.std.proofs.Common.{◌≡◌, ℕ, Bool, true, false, ◌==◌, ◌&&◌, ◌⊎◌, inl, inr, List, [], ◌∷◌, ◌++◌, map, filter, Option, Some, None, if◌then◌else◌, refl, sym, ap, subst, ◌∙◌, true≢false}
+use Rattle.std.specs.List.{flat_map, filter_map, cons_option}
 use Rattle.std.specs.Option.{option_map, option_map_or, option_and_then}
 use Rattle.std.proofs.lemmas.Bool.{or_parts, and_parts, eqb-true, eq-eqb}
 use Rattle.std.proofs.lemmas.List.Folds.{list_any-append}
@@ -22,16 +22,15 @@ use Rattle.shop_chain.specs.Inheriting.{effective}
 use Rattle.row_fields.specs.Fields.{number_of, int_in}
 use Rattle.id_sets.specs.Sets.{has}
 use Rattle.shop_meanings.specs.Live.{live_key, live_rows, AreOrderly}
-use Rattle.product_meanings.specs.declared.listing.ListingPrice.{ListingPrice}
-use Rattle.product_meanings.specs.Products.{product, parent_of, variant_ids, is_active, or_else}
+use Rattle.product_meanings.specs.Products.{product, variant_ids, is_active, or_else}
 use Rattle.product_meanings.specs.Listings.{Offer, offer_of, offer, sold_for, offers, price_of, listing_price}
 use Rattle.product_meanings.proofs.Picked.{found_live, product_one}
 use Rattle.idx_category.specs.Touching.{parent_ids}
 use Rattle.idx_category.proofs.Moves.{IsChanged, changed as changed_or_same, has_flat_map, sub_off}
-use Rattle.idx_category.proofs.Walks.{has_flat, or_left, or_right}
+use Rattle.idx_category.proofs.Walks.{has_flat, or_left}
 use Rattle.product_rows.specs.Affecting.{is_live_of, with_variants}
 use Rattle.product_rows.proofs.Outside.{variant_has}
-use Rattle.product_rows.proofs.Parts.{NonePasses, same_filter, none_passes, first_false, second_false}
+use Rattle.product_rows.proofs.Parts.{NonePasses, same_filter, none_passes, second_false}
 use Rattle.idx_listing.specs.Repricing.{changed_at, changed, parents_at, parents, repriced}
 
 -- ---- lists that are read alike

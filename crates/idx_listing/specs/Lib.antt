@@ -1,1 +1,3 @@
 pub mod Repricing
+pub mod Relisting
+pub mod Shown

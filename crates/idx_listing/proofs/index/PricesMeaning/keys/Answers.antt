@@ -1,4 +1,4 @@
-use Rattle.std.proofs.Common.{◌≡◌, ◌∙◌, ℕ, List, sym, ap}
+use Rattle.std.proofs.Common.{◌∙◌, ℕ, List, sym, ap}
 use Rattle.renewed.specs.Showing.{has_key}
 use Rattle.idx_listing.proofs.Counts.{price_none}
 use Rattle.idx_listing.proofs.index.PricesMeaning.keys.Goals as goal
