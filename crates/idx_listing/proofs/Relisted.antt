@@ -38,7 +38,7 @@ same_belongs before after products law category id off = ap (λ (o : Option Row)
         ap (λ (all : List ℕ). is_active row && (is_none (parent_id REFERENCES row) && has all category)) ways
 
 -- and to no list of a category that it has no way to
-no_way : (rows : List Row) (category id : ℕ) → has (with_above rows (own_links rows id)) category ≡ false → belongs rows category id ≡ false
+pub no_way : (rows : List Row) (category id : ℕ) → has (with_above rows (own_links rows id)) category ≡ false → belongs rows category id ≡ false
 no_way rows category id off = by (product rows id) refl
   where
     by : (o : Option Row) → product rows id ≡ o → option_map_or (is_listed rows category) o false ≡ false
@@ -156,14 +156,14 @@ renewed_list before after products categories was is law category there held old
     each id true h = refl
     each id false h = stood id h which
 
--- what is found among all products, from none on, is what the category lists
-pub found_list : (rows : List Row) → AreOrderly rows → (category : ℕ) (products : List ℕ) (edited : Option (List ℕ)) (old : List ℕ) → old ≡ [] → is_none (live_row rows E.Category category) ≡ false → ((id : ℕ) → has products id ≡ false → product rows id ≡ None) → IsEdited rows category old products edited → Some (unwrap_or edited old) ≡ listed rows category
+-- what is found among all that may belong to it, from none on, is what the category lists
+pub found_list : (rows : List Row) → AreOrderly rows → (category : ℕ) (products : List ℕ) (edited : Option (List ℕ)) (old : List ℕ) → old ≡ [] → is_none (live_row rows E.Category category) ≡ false → ((id : ℕ) → has products id ≡ false → belongs rows category id ≡ false) → IsEdited rows category old products edited → Some (unwrap_or edited old) ≡ listed rows category
 found_list rows orderly category products edited old none there all is =
     are_listed rows orderly category (unwrap_or edited old) (present (live_row rows E.Category category) there) is.ascend (λ id. is.members id ∙ each id (has products id) refl)
   where
     each : (id : ℕ) (b : Bool) → has products id ≡ b → (if b then belongs rows category id else has old id) ≡ belongs rows category id
     each id true h = refl
-    each id false h = ap (λ (ids : List ℕ). has ids id) none ∙ sym (ap (λ (o : Option Row). option_map_or (is_listed rows category) o false) (all id h))
+    each id false h = ap (λ (ids : List ℕ). has ids id) none ∙ sym (all id h)
 
 -- a category that isn't there lists nothing
 pub listed_none : (rows : List Row) (category : ℕ) → live_row rows E.Category category ≡ None → listed rows category ≡ None

@@ -9,9 +9,11 @@ use Rattle.shop_defs.specs.declared.table.TheConstants.{REFERENCES}
 use Rattle.shop_defs.specs.Joined.{Change}
 use Rattle.shop_operations.specs.Parents.{parent_id}
 use Rattle.id_sets.specs.Sets.{has, AreAscending}
+use Rattle.shop_meanings.specs.Categories.{children_of}
 use Rattle.product_meanings.specs.Products.{product, is_active, own_links, with_above}
 use Rattle.product_meanings.specs.Listings.{is_listed, listed}
-use Rattle.product_rows.specs.Affecting.{is_live_of}
+use Rattle.idx_category.specs.Touching.{layers}
+use Rattle.product_rows.specs.Affecting.{is_live_of, linked_to}
 
 -- the product is active and no variant
 abbrev pub is_sold_by_itself : Row → Bool
@@ -20,6 +22,10 @@ is_sold_by_itself row = is_active row && is_none (parent_id REFERENCES row)
 -- the category lists the product with that id: not where there is no such live product
 abbrev pub belongs : List Row → ℕ → ℕ → Bool
 belongs rows category id = option_map_or (is_listed rows category) (product rows id) false
+
+-- the products with a link of their own to the category or to one below it
+abbrev pub linked_below : List Row → ℕ → List ℕ
+linked_below rows category = flat_map (linked_to rows) (layers (children_of rows) 32 (category ∷ []))
 
 -- the category whose own row stands at the key
 abbrev pub category_at : Key → List ℕ

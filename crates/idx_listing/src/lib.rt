@@ -20,11 +20,12 @@
 //!   listed by a category fits its number. Want of memory is the only error. After one from `apply` the
 //!   index is only fit to be dropped.
 //! - That `copy` shares pages, that a page is found without a walk over those before it, that a list
-//!   that stays the same isn't made anew, and that no call walks over all rows but `build`, which walks
-//!   over all products, for each category too, are how they are written; no clause speaks of it. Where
-//!   a category comes, all products are looked at for it.
+//!   that stays the same isn't made anew, that what a category lists is found among the products that
+//!   are linked to it or below it, and that no call walks over all rows but `build`, which walks over
+//!   all products and all categories, are how they are written; no clause speaks of it.
 #![tactic(auto)]
 
+mod below;
 mod categories;
 mod index;
 mod lists;

@@ -7,9 +7,10 @@ ghost use Rattle.product_meanings.specs.Products.{own_links, with_above as the_w
 ghost use Rattle.product_meanings.specs.Listings.{is_listed as lists_row, listed};
 ghost use Rattle.idx_listing.specs.Relisting as spec;
 
+use crate::below::linked_below;
 use crate::numbers::ACTIVE;
 use id_sets::{Ids, Pick, edited};
-use product_rows::{ids_of, own_links, product, product_ids, with_above};
+use product_rows::{ids_of, own_links, product, with_above};
 use row_fields::is_set;
 use shop_defs::{Entity, Key, NoMemory, Row};
 use shop_operations::parent_id;
@@ -69,7 +70,7 @@ pub(crate) fn linked_and_above(alloc: Global, rows: &Rows, id: u128) -> Result<V
 }
 
 /// The key of a live category.
-fn category_key(id: u128) -> Key
+pub(crate) fn category_key(id: u128) -> Key
     ensures { result ≡ live_key E.Category id }
 {
     Key {
@@ -87,8 +88,8 @@ pub(crate) fn is_missing(rows: &Rows, category: u128) -> bool
     rows.get(&category_key(category)).is_none()
 }
 
-/// The products that the category lists, by a walk over all products: none where there is no such live
-/// category.
+/// The products that the category lists, of those that are linked to it or below it: none where there
+/// is no such live category.
 pub(crate) fn find_listed(
     alloc: Global,
     rows: &Rows,
@@ -101,7 +102,7 @@ pub(crate) fn find_listed(
         return Ok(None);
     }
     let none = Ids::none(alloc);
-    let products = product_ids(alloc, rows)?;
+    let products = linked_below(alloc, rows, category)?;
     let found = edited_list(alloc, rows, category, &none, &products)?;
     Ok(Some(found.unwrap_or(none)))
 }
