@@ -2,6 +2,7 @@
 ghost use Rattle.std.specs.Prelude.{◌≡◌};
 ghost use Rattle.idx_copy.specs.declared.answer.AskFault.TheVariants as asking;
 
+use product_meanings::{ListingPage, ListingPrice};
 use shop_defs::{Broken, NoMemory};
 
 /// What a question is answered, lent by the tables.
@@ -16,6 +17,15 @@ pub enum Answer<'a> {
         /// How many categories have it as their parent.
         children: u32,
     },
+    /// Which products are members of a stream.
+    StreamMembers {
+        /// The ids of the products, ascending.
+        members: &'a [u128],
+    },
+    /// At which price a listing shows a product.
+    ListingPrice(ListingPrice),
+    /// A page of what a category lists.
+    Listing(ListingPage),
 }
 
 /// Why a question isn't answered, or a row not shown.

@@ -2,7 +2,6 @@
 ghost use Rattle.std.specs.Prelude.{◌≡◌, ◌+◌, ◌<◌, ◌^◌, length, IfOk};
 ghost use Rattle.std.specs.Arc.{arc_value};
 ghost use Rattle.shop_check.specs.Soundness.{AreSound};
-ghost use Rattle.shop_meanings.specs.Direct.{IsAsked};
 ghost use Rattle.idx_copy.specs.Answers.{AreTablesOf, Answers};
 ghost use Rattle.idx_copy.specs.Copies.{IsCopy};
 ghost use Rattle.idx_copy.specs.Fronts.{rows_after, changes_in, EachFits};
@@ -79,17 +78,15 @@ impl IndexCopy {
         })
     }
 
-    /// What the question is answered over the rows. So far it is the one where a category stands, which
-    /// takes no memory.
+    /// What the question is answered over the rows. It takes memory for a page of a listing alone.
     ///
     /// # Errors
     ///
     /// Those of `ask` of its tables.
-    pub fn ask<'a>(&'a self, query: &Query) -> Result<Answer<'a>, AskFault>
-        requires { IsAsked query.now }
+    pub fn ask<'a>(&'a self, alloc: Global, query: &Query) -> Result<Answer<'a>, AskFault>
         ensures { Answers self.entry.now.rows query.now result }
     {
-        self.tables.ask(query)
+        self.tables.ask(alloc, query)
     }
 
     /// The tables, which are the direct ones of the rows. It takes no memory.
