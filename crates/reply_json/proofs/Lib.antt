@@ -4,3 +4,4 @@ mod DayReads
 pub mod Calendar
 pub mod RowTokens
 mod FieldLaws
+pub mod Chain

@@ -8,3 +8,4 @@ pub mod Refusals
 pub mod Faults
 pub mod Fronts
 pub mod Trees
+pub mod Products

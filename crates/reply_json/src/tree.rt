@@ -48,7 +48,7 @@ fn put_tree(
 }
 
 /// Puts ids, and the end of their array.
-fn put_ids(out: &mut Body, ids: &[u128]) -> Result<(), NoMemory>
+pub(crate) fn put_ids(out: &mut Body, ids: &[u128]) -> Result<(), NoMemory>
     ensures { OnOk result (out.new ≡ out.old ++ rest_of_array (spec.id_items ids.now)) }
 {
     for id in ids {

@@ -1,44 +1,32 @@
 -- What is answered of a question about all rows.
-use Rattle.std.specs.Prelude.{ℕ, ◌≡◌, ◌≤◌, ◌⊎◌, nat_le, List, Option, Some, None, if◌then◌else◌, Result, Ok, Err}
+use Rattle.std.specs.Prelude.{ℕ, ◌≡◌, ◌≤◌, ◌⊎◌, nat_le, List, if◌then◌else◌, Result, Ok, Err}
 use Rattle.shop_defs.specs.declared.broken.Broken.{Broken}
 use Rattle.shop_defs.specs.declared.broken.Broken.TheVariants as B
-use Rattle.shop_defs.specs.declared.entity.Entity.TheVariants as E
 use Rattle.shop_defs.specs.declared.row.Row.{Row}
-use Rattle.shop_requests.specs.declared.line_fault.LineFault.TheVariants as lines
 use Rattle.shop_requests.specs.declared.query.Query.{Query}
-use Rattle.shop_requests.specs.declared.query.Query.TheVariants as Q
-use Rattle.shop_meanings.specs.declared.standing.Standing.{Standing}
-use Rattle.shop_meanings.specs.Live.{live_key}
-use Rattle.shop_meanings.specs.Categories.{standing}
-use Rattle.shop_meanings.specs.Direct.{Meant, tree, IsDirect}
+use Rattle.product_meanings.specs.Direct.{Told, tree, members, price, page, direct}
 use Rattle.shop_core.specs.declared.answers.Reply.{Reply}
 use Rattle.shop_core.specs.declared.answers.Reply.TheVariants as replies
+use Rattle.shop_core.specs.declared.answers.Told.TheVariants as answers
 use Rattle.shop_core.specs.Shops.{ShopView}
 use Rattle.shop_core.specs.Publishing.{OnlyPublishes, IsCaughtUp}
 
--- where a category stands by the rows after so many entries, or that there is no such row
-abbrev pub tree_reply : ℕ → ℕ → Option Standing → Reply
-tree_reply front category None = replies.Missing front (live_key E.Category category)
-tree_reply front category (Some standing) = replies.Tree front standing
+-- what is told over the rows after so many entries, or that there is no such row, as a reply
+abbrev pub said_reply : ℕ → Result Told Broken → Reply
+said_reply front (Ok (tree standing)) = replies.Told front (answers.Tree standing)
+said_reply front (Ok (members ids)) = replies.Told front (answers.Members ids)
+said_reply front (Ok (price found)) = replies.Told front (answers.Price found)
+said_reply front (Ok (page shown)) = replies.Told front (answers.Page shown)
+said_reply front (Err (B.NoSuchRow key)) = replies.Missing front key
+said_reply front (Err broken) = replies.Refused (record { op = 0; broken = broken })
 
--- what a question is answered by the rows after so many entries; to one of those that aren't built yet, that it isn't
+-- what a question is answered by the rows after so many entries: what it means over them
 abbrev pub direct_reply : List Row → ℕ → Query → Reply
-direct_reply rows front (Q.CategoryTree category) = tree_reply front category (standing rows category)
-direct_reply rows front query = replies.Line lines.NotBuilt
+direct_reply rows front query = said_reply front (direct rows query)
 
 -- what it is answered over all accepted entries, where there are as many as are asked for
 abbrev pub indexed_answer : List Row → ℕ → Query → ℕ → Reply
 indexed_answer rows number query least = if nat_le least number then direct_reply rows number query else replies.FrontUnknown least number
-
--- a meaning over the rows after so many entries, as a reply
-abbrev pub said_reply : ℕ → Result Meant Broken → Reply
-said_reply front (Ok (tree standing)) = replies.Tree front standing
-said_reply front (Err (B.NoSuchRow key)) = replies.Missing front key
-said_reply front (Err broken) = replies.Refused (record { op = 0; broken = broken })
-
--- What a question means over rows is what it is answered by them.
-abbrev pub MeaningsAreReplied : Type 0
-MeaningsAreReplied = (rows : List Row) (front : ℕ) (query : Query) (meant : Result Meant Broken) → IsDirect rows query meant → direct_reply rows front query ≡ said_reply front meant
 
 -- a reply is this, unless memory ran out
 abbrev pub Tells : Reply → Reply → Type 0

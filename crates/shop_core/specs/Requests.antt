@@ -34,7 +34,6 @@ use Rattle.shop_core.specs.declared.answers.RowReply.{RowReply}
 use Rattle.shop_core.specs.Commits.{Commits}
 use Rattle.shop_core.specs.Publishing.{CatchesUp, OnlyPublishes}
 use Rattle.shop_core.specs.Indexed.{IsTold}
-use Rattle.shop_meanings.specs.Direct.{IsAsked}
 use Rattle.shop_core.specs.Shops.{ShopView}
 use Rattle.shop_core.specs.Steps.{IsBuilt}
 
@@ -119,7 +118,7 @@ abbrev pub IsBuiltRequest : Request → Type 0
 IsBuiltRequest (requests.Write command) = IsBuilt command
 IsBuiltRequest (requests.Row read) = Unit {0}
 IsBuiltRequest (requests.RowList entity id second) = Unit {0}
-IsBuiltRequest (requests.Indexed query least) = IsAsked query
+IsBuiltRequest (requests.Indexed query least) = Unit {0}
 IsBuiltRequest (requests.Cart cart) = Unit {0}
 IsBuiltRequest requests.Front = Unit {0}
 

@@ -6,6 +6,7 @@ ghost use Rattle.shop_core.specs.Requests as spec;
 use cart_loop::CartRefused;
 use cart_price::Settled;
 use idx_copy::AskFault;
+use product_meanings::{ListingPage, ListingPrice};
 use shop_chain::Shown;
 use shop_check::Rule;
 use shop_defs::{Broken, Key, List, NoMemory, Refused, Row, Txt, Value};
@@ -104,7 +105,7 @@ pub enum Request {
         /// The second part of the place. 0 is below all of them.
         second: u128,
     },
-    /// To answer a question about all rows. So far it is the one where a category stands.
+    /// To answer a question about all rows.
     Indexed {
         /// The question.
         query: Query,
@@ -118,6 +119,19 @@ pub enum Request {
     },
     /// To say how many entries are accepted and published.
     Front,
+}
+
+/// What a question about all rows is answered.
+#[derive(Drop)]
+pub enum Told {
+    /// Where a category stands among the others.
+    Tree(Standing),
+    /// The ids of the products that are members of a stream, ascending.
+    Members(List<u128>),
+    /// At which price a product is listed.
+    Price(ListingPrice),
+    /// A page of what a category lists.
+    Page(ListingPage),
 }
 
 /// What a shop answers.
@@ -136,12 +150,12 @@ pub enum Reply {
         /// The cart as it is settled by the rows after these.
         settled: Settled,
     },
-    /// Where a category stands among the others.
-    Tree {
+    /// What a question about all rows is answered.
+    Told {
         /// The answer is that of the rows after so many entries.
         front: u64,
-        /// Where it stands.
-        standing: Standing,
+        /// The answer.
+        told: Told,
     },
     /// No row has the key that a question about all rows names.
     Missing {

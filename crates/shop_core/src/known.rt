@@ -3,7 +3,7 @@ ghost use Rattle.std.specs.Prelude.{◌≡◌, IfOk, Ok, Err};
 ghost use Rattle.idx_copy.specs.Answers.{said};
 ghost use Rattle.shop_core.specs.Indexed.{Tells, said_reply};
 
-use crate::answers::Reply;
+use crate::answers::{Reply, Told};
 use idx_copy::Answer;
 use shop_defs::{Broken, List, NoMemory, Refused};
 use shop_meanings::Standing;
@@ -19,9 +19,9 @@ pub fn refused_at(front: u64, broken: Broken) -> Reply
     }
 }
 
-/// The answer to a question that the rows after so many entries answer so: a copy of what is lent.
-pub(crate) fn told(alloc: Global, front: u64, answer: &Answer<'_>) -> Reply
-    ensures { Tells result (said_reply front (Ok (said answer.now))) }
+/// The answer to a question that the rows after so many entries answer so. Ids that are lent are copied.
+pub(crate) fn told(alloc: Global, front: u64, answer: Answer<'_>) -> Reply
+    ensures { Tells result (said_reply front (Ok (said answer.entry))) }
 {
     match answer {
         Answer::CategoryTree {
@@ -29,15 +29,30 @@ pub(crate) fn told(alloc: Global, front: u64, answer: &Answer<'_>) -> Reply
             level,
             children,
         } => match copy_ids(alloc, path) {
-            Ok(path) => Reply::Tree {
+            Ok(path) => Reply::Told {
                 front,
-                standing: Standing {
+                told: Told::Tree(Standing {
                     path,
-                    level: *level,
-                    children: *children,
-                },
+                    level,
+                    children,
+                }),
             },
             Err(_) => Reply::NoMemory,
+        },
+        Answer::StreamMembers { members } => match copy_ids(alloc, members) {
+            Ok(members) => Reply::Told {
+                front,
+                told: Told::Members(members),
+            },
+            Err(_) => Reply::NoMemory,
+        },
+        Answer::ListingPrice(price) => Reply::Told {
+            front,
+            told: Told::Price(price),
+        },
+        Answer::Listing(page) => Reply::Told {
+            front,
+            told: Told::Page(page),
         },
     }
 }

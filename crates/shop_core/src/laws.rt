@@ -1,7 +1,6 @@
 //! What holds of steps and histories.
 ghost use Rattle.shop_core.specs.Carts.{SoundNamesAreTexts, SoundRowsAreCartRows};
 ghost use Rattle.shop_core.specs.Commits.{CommitsAreTheReplay};
-ghost use Rattle.shop_core.specs.Indexed.{MeaningsAreReplied};
 ghost use Rattle.shop_core.specs.Steps.{LiveRowsAreReplaced};
 ghost use Rattle.shop_core.specs.History.{OneEntryMore, PrefixesStay, EachIsCounted, RowsStaySound};
 
@@ -44,9 +43,4 @@ pub fn law_of_cart_rows()
 /// The lines of a cart of sound rows are called by their products' names byte by byte.
 pub fn law_of_the_names()
     ensures { SoundNamesAreTexts }
-{}
-
-/// A question is answered with what it means over the rows.
-pub fn law_of_the_meanings()
-    ensures { MeaningsAreReplied }
 {}

@@ -23,9 +23,10 @@
 //!   gives the published copy and the first pending deltas, with all that the next copy is built of;
 //!   `install` puts a copy in place that was built so, or answers `Older` (`installs`); `published` gives
 //!   the copy, `front` its front.
-//! - `ask` lends what a question about all rows is answered by the published copy (`answers`), and
-//!   `law_of_the_meanings` says that this is what it means over the rows. `answer` catches up after a
-//!   write, and before such a question and a cart.
+//! - `ask` lends what a question about all rows means over the rows of the published copy (`answers`):
+//!   where a category stands, the members of a stream, the price of a product, a page of a listing.
+//!   `answer` catches up after a write, and before such a question and a cart, so the answer is what the
+//!   question means over all accepted entries (`IsTold`).
 //! - `read_row` answers what a read shows, or the first rule that it breaks (`reading`),
 //!   `read_list` which rows are listed (`listing`); `see_row` and `see_list` lend the same, and
 //!   `answer` is all of these for a request. In words: where a read breaks a rule, no earlier one is
@@ -52,12 +53,12 @@ mod ready;
 mod state;
 mod threads;
 
-pub use answers::{CommitFault, Done, Entry, OpenFault, Reply, Request, RowReply, RowSeen};
+pub use answers::{CommitFault, Done, Entry, OpenFault, Reply, Request, RowReply, RowSeen, Told};
 pub use idx_copy::{Answer, AskFault};
 pub use known::refused_at;
 pub use laws::{
     law_of_cart_rows, law_of_counting, law_of_live_rows, law_of_one_entry_more, law_of_prefixes,
-    law_of_sound_rows, law_of_the_commits, law_of_the_meanings, law_of_the_names,
+    law_of_sound_rows, law_of_the_commits, law_of_the_names,
 };
 pub use publishing::{Batch, Older};
 pub use state::{ShopState, open_shop};

@@ -6,7 +6,6 @@ ghost use Rattle.shop_outside.specs.Clocks.{IsMoment};
 ghost use Rattle.shop_check.specs.Soundness.{kept as kept_rows, AreSound};
 ghost use Rattle.shop_core.specs.Steps.{IsBuilt};
 ghost use Rattle.shop_core.specs.Shops.{ShopView, IsShop};
-ghost use Rattle.shop_meanings.specs.Direct.{IsAsked};
 ghost use Rattle.idx_copy.specs.Answers as known;
 ghost use Rattle.shop_core.specs.Indexed.{IsTold, Tells, direct_reply};
 ghost use Rattle.shop_core.specs.Publishing.{CatchesUp, Installs, MakesRoom};
@@ -260,18 +259,17 @@ impl<P: Keeper + Drop> ShopState<P> {
     }
 
     /// What a question about all rows is answered by the published copy, lent as long as the shop stays as
-    /// it is. So far it is the one where a category stands, which takes no memory.
+    /// it is. Only a page of a listing takes memory.
     ///
     /// # Errors
     ///
-    /// `Refused` with `NoSuchRow` comes exactly where there is no such live category, and `NoMemory` of no
-    /// question that is asked so far.
-    pub fn ask<'a>(&'a self, query: &Query) -> Result<Answer<'a>, AskFault>
-        requires { IsAsked query.now }
+    /// `Refused` with `NoSuchRow` comes exactly where there is no such live category, stream or product, and
+    /// `NoMemory` only of a page, where memory is refused.
+    pub fn ask<'a>(&'a self, alloc: Global, query: &Query) -> Result<Answer<'a>, AskFault>
         ensures answers { known.Answers self.entry.now.copy.rows query.now result }
         ensures shop { IsShop self.entry.now }
     {
-        self.queue.copy().ask(query)
+        self.queue.copy().ask(alloc, query)
     }
 
     /// The front of the published copy: how many accepted entries it has taken in. It takes no memory.
@@ -411,11 +409,10 @@ impl<P: Keeper + Drop> ShopState<P> {
 
     /// Answers a question about all rows by the published copy.
     fn show_known(&self, alloc: Global, query: &Query) -> Reply
-        requires asked { IsAsked query.now }
         ensures tells { Tells result (direct_reply self.now.copy.rows self.now.copy.front query.now) }
     {
-        match self.ask(query) {
-            Ok(answer) => told(alloc, self.front(), &answer),
+        match self.ask(alloc, query) {
+            Ok(answer) => told(alloc, self.front(), answer),
             Err(AskFault::Refused(broken)) => refused_at(self.front(), broken),
             Err(AskFault::NoMemory) => Reply::NoMemory,
         }
@@ -423,7 +420,6 @@ impl<P: Keeper + Drop> ShopState<P> {
 
     /// Catches up, and answers a question about all rows, unless more entries are asked for than there are.
     fn answer_known(&mut self, alloc: Global, query: &Query, min_front: u64) -> Reply
-        requires asked { IsAsked query.now }
         ensures answers { IsTold self.old result query.now min_front self.new }
         ensures shop { IsShop self.new }
     {

@@ -1,4 +1,3 @@
 pub mod Bodies
 pub mod Constant
 pub mod DoneText
-pub mod Served

@@ -5,10 +5,13 @@ use Rattle.serde_json.specs.Written.{compact_text}
 use Rattle.cart_json.specs.CartReplies.{settled_data}
 use Rattle.shop_core.specs.declared.answers.Reply.{Reply}
 use Rattle.shop_core.specs.declared.answers.Reply.TheVariants as R
+use Rattle.shop_core.specs.declared.answers.Told.{Told}
+use Rattle.shop_core.specs.declared.answers.Told.TheVariants as T
 use Rattle.shop_chain.specs.Showing.{ShownList}
 use Rattle.reply_json.specs.Faults.{fault_data, fault_status}
 use Rattle.reply_json.specs.Fronts.{front_data, front_unknown_data}
 use Rattle.reply_json.specs.Objects.{object_of}
+use Rattle.reply_json.specs.Products.{members_data, price_data, page_data}
 use Rattle.reply_json.specs.Refusals.{refusal_data, refusal_status}
 use Rattle.reply_json.specs.RowReplies.{done_data, row_data, rows_data}
 use Rattle.reply_json.specs.Trees.{missing_data, tree_data}
@@ -21,12 +24,19 @@ if_any (shown ∷ rest) = Some (shown ∷ rest)
 abbrev pub error_data : List ℕ → Data
 error_data name = object_of ((codes "error", string name) ∷ [])
 
+-- what a question about all rows is answered, by the rows after so many entries
+abbrev pub told_data : ℕ → Told → Data
+told_data front (T.Tree standing) = tree_data front standing.path standing.level standing.children
+told_data front (T.Members members) = members_data front members
+told_data front (T.Price price) = price_data front price
+told_data front (T.Page page) = page_data front page
+
 abbrev pub reply_data : Reply → Data
 reply_data (R.Done done) = done_data done.front done.value
 reply_data (R.Row reply) = row_data reply.row (if_any reply.shown)
 reply_data (R.RowList replies) = rows_data (map (λ reply. reply.row) replies)
 reply_data (R.Cart front settled) = settled_data front settled
-reply_data (R.Tree front standing) = tree_data front standing.path standing.level standing.children
+reply_data (R.Told front told) = told_data front told
 reply_data (R.Missing front key) = missing_data front key
 reply_data (R.Front accepted published) = front_data accepted published
 reply_data (R.FrontUnknown asked have) = front_unknown_data asked have
@@ -40,7 +50,7 @@ reply_status (R.Done done) = 200
 reply_status (R.Row reply) = 200
 reply_status (R.RowList replies) = 200
 reply_status (R.Cart front settled) = 200
-reply_status (R.Tree front standing) = 200
+reply_status (R.Told front told) = 200
 reply_status (R.Missing front key) = 404
 reply_status (R.Front accepted published) = 200
 reply_status (R.FrontUnknown asked have) = 409

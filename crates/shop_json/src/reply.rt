@@ -2,6 +2,7 @@
 ghost use Rattle.std.specs.Prelude.{◌≡◌, map, IfOk, Ok, OnOk};
 ghost use Rattle.std.specs.Option.{option_map};
 ghost use Rattle.shop_core.specs.declared.answers.Reply.TheVariants as replies;
+ghost use Rattle.shop_core.specs.declared.answers.Told.TheVariants as answers;
 ghost use Rattle.shop_chain.specs.Showing.{lent};
 ghost use Rattle.idx_copy.specs.Answers.{said};
 ghost use Rattle.shop_core.specs.Indexed.{said_reply};
@@ -11,12 +12,14 @@ ghost use Rattle.shop_json.specs.Replying as spec;
 
 use cart_json::settled_text;
 use cart_price::Settled;
+use product_meanings::{ListingPage, ListingPrice};
 use reply_json::{
-    done_text, fault_status, fault_text, front_text, front_unknown_text, missing_text,
-    refusal_status, refusal_text, row_text, rows_text, seen_text, tree_text,
+    done_text, fault_status, fault_text, front_text, front_unknown_text, members_text,
+    missing_text, page_text, price_text, refusal_status, refusal_text, row_text, rows_text,
+    seen_text, tree_text,
 };
 use shop_chain::{Shown, ShownValue};
-use shop_core::{Answer, Reply, RowReply, RowSeen};
+use shop_core::{Answer, Reply, RowReply, RowSeen, Told};
 use shop_defs::{List, NoMemory, Row, Txt, Value};
 use shop_http::{NO_MEMORY_BODY, STORE_FAILED_BODY};
 use shop_meanings::Standing;
@@ -36,7 +39,7 @@ pub fn reply_text(alloc: Global, reply: &Reply) -> Result<(u16, List<u8>), NoMem
         Reply::Row(reply) => Ok((200, row_text(alloc, &reply.row, if_any(&reply.shown))?)),
         Reply::RowList(replies) => Ok((200, replied_text(alloc, replies.as_slice())?)),
         Reply::Cart { front, settled } => Ok((200, settled_body(alloc, *front, settled)?)),
-        Reply::Tree { front, standing } => Ok((200, standing_body(alloc, *front, standing)?)),
+        Reply::Told { front, told } => Ok((200, told_body(alloc, *front, told)?)),
         Reply::Missing { front, key } => Ok((404, missing_text(alloc, *front, key)?)),
         Reply::Front {
             accepted,
@@ -127,10 +130,22 @@ pub fn cart_text(
     settled_text(alloc, room, front, settled)
 }
 
+/// The body that says what a question about all rows is answered.
+fn told_body(alloc: Global, front: u64, told: &Told) -> Result<List<u8>, NoMemory>
+    ensures { IfOk result (λ body. body ≡ spec.reply_body (replies.Told front told.now)) }
+{
+    match told {
+        Told::Tree(standing) => standing_body(alloc, front, standing),
+        Told::Members(members) => members_body(alloc, front, members.as_slice()),
+        Told::Price(price) => price_body(alloc, front, price),
+        Told::Page(page) => page_body(alloc, front, page),
+    }
+}
+
 /// The body that says where a category stands.
 #[tactic(auto, unfolding(crate::specs::Replying::reply_body))]
 fn standing_body(alloc: Global, front: u64, standing: &Standing) -> Result<List<u8>, NoMemory>
-    ensures { IfOk result (λ body. body ≡ spec.reply_body (replies.Tree front standing.now)) }
+    ensures { IfOk result (λ body. body ≡ spec.reply_body (replies.Told front (answers.Tree standing.now))) }
 {
     let mut room = Vec::new(alloc);
     let path = standing.path.as_slice();
@@ -142,6 +157,36 @@ fn standing_body(alloc: Global, front: u64, standing: &Standing) -> Result<List<
         standing.level,
         standing.children,
     )?;
+    Ok(List::from_vec(room))
+}
+
+/// The body that says which products are members of a stream.
+#[tactic(auto, unfolding(crate::specs::Replying::reply_body))]
+fn members_body(alloc: Global, front: u64, members: &[u128]) -> Result<List<u8>, NoMemory>
+    ensures { IfOk result (λ body. body ≡ spec.reply_body (replies.Told front (answers.Members members.now))) }
+{
+    let mut room = Vec::new(alloc);
+    members_text(alloc, &mut room, front, members)?;
+    Ok(List::from_vec(room))
+}
+
+/// The body that says at which price a product is listed.
+#[tactic(auto, unfolding(crate::specs::Replying::reply_body))]
+fn price_body(alloc: Global, front: u64, price: &ListingPrice) -> Result<List<u8>, NoMemory>
+    ensures { IfOk result (λ body. body ≡ spec.reply_body (replies.Told front (answers.Price price.now))) }
+{
+    let mut room = Vec::new(alloc);
+    price_text(alloc, &mut room, front, price)?;
+    Ok(List::from_vec(room))
+}
+
+/// The body of a page of what a category lists.
+#[tactic(auto, unfolding(crate::specs::Replying::reply_body))]
+fn page_body(alloc: Global, front: u64, page: &ListingPage) -> Result<List<u8>, NoMemory>
+    ensures { IfOk result (λ body. body ≡ spec.reply_body (replies.Told front (answers.Page page.now))) }
+{
+    let mut room = Vec::new(alloc);
+    page_text(alloc, &mut room, front, page)?;
     Ok(List::from_vec(room))
 }
 
@@ -162,6 +207,9 @@ pub fn answer_text(
             level,
             children,
         } => tree_text(alloc, room, front, path, *level, *children),
+        Answer::StreamMembers { members } => members_text(alloc, room, front, members),
+        Answer::ListingPrice(price) => price_text(alloc, room, front, price),
+        Answer::Listing(page) => page_text(alloc, room, front, page),
     }
 }
 

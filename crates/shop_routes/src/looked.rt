@@ -51,7 +51,7 @@ pub struct Asks<'b> {
 
 impl<'b> Looked<'b> {
     /// Whether it is something that isn't answered yet: anything but a batch for the live version, a
-    /// row, a list of rows, where a category stands, a cart, or how many entries there are.
+    /// row, a list of rows, a question about all rows, a cart, or how many entries there are.
     pub fn asks_later(&self) -> bool
         ensures { result ≡ asks_later (meant self.now) }
     {
@@ -71,6 +71,9 @@ fn is_later(endpoint: Endpoint, headers: &Headers) -> bool
         Endpoint::Row
         | Endpoint::RowList
         | Endpoint::CategoryTree
+        | Endpoint::Listing
+        | Endpoint::StreamMembers
+        | Endpoint::ListingPrice
         | Endpoint::Cart
         | Endpoint::Front => false,
         _ => true,

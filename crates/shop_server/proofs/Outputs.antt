@@ -200,7 +200,7 @@ module _ (first last : DeskView) (all before : List ℕ) (left' written' : Optio
 pub unwritten : (state : State) (coming : Option (ℕ → ℤ)) (faults now : ℕ) → faults ≤ now → (all before : List ℕ) (written : Option (List ℕ)) (number : ℕ)
     → written ≡ Some before → IsCutShort number → HasWritten state coming faults now all before written number
 unwritten state coming faults now rises all before written number e short =
-    let copy : CopyView = record { front = state.number; rows = state.rows; tables = record { paths = [] } } in
+    let copy : CopyView = record { front = state.number; rows = state.rows; tables = record { paths = []; streams = []; listings = record { prices = []; lists = [] } } } in
     let desk : DeskView = record { answerer = record { rows = state.rows; number = state.number; content = None; faults = faults; copy = copy; pending = [] }; coming = coming } in
     let cuts : Cuts Refusal = requests cut most_requests all in
     let answers = answers_exist desk cuts.asked in

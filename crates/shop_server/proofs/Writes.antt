@@ -18,10 +18,9 @@ use Rattle.shop_core.specs.declared.answers.CommitFault.{CommitFault}
 use Rattle.shop_core.specs.History.{State, after_step}
 use Rattle.shop_defs.specs.declared.broken.Broken.{Broken}
 use Rattle.shop_defs.specs.declared.row.Row.{Row}
-use Rattle.shop_meanings.specs.Direct.{Meant, tree, IsDirect}
+use Rattle.product_meanings.specs.Direct.{Told, tree, members, price, page, direct}
 use Rattle.shop_core.specs.Indexed.{direct_reply, indexed_answer, said_reply}
 use Rattle.shop_core.specs.declared.answers.Reply.{Reply}
-use Rattle.shop_core.proofs.Meanings.{meanings_are_replied}
 use Rattle.shop_json.specs.Replying.{reply_body, reply_status}
 use Rattle.shop_core.specs.Publishing.{CatchesUp, OnlyPublishes}
 use Rattle.shop_core.specs.Requests.{answered, cart_answer, listing, reading, with_bare}
@@ -154,19 +153,22 @@ fronts_shown old moment last out e = record { may = tt; text = e; left = refl; c
 
 -- what is answered of a question, as the bytes of its reply
 
-told_status : (front : ℕ) (meant : Meant) → reply_status (said_reply front (Ok meant)) ≡ 200
+told_status : (front : ℕ) (told : Told) → reply_status (said_reply front (Ok told)) ≡ 200
 told_status front (tree standing) = refl
+told_status front (members ids) = refl
+told_status front (price found) = refl
+told_status front (page shown) = refl
 
-pub told_text : (rows : List Row) (front : ℕ) (query : Query) (meant : Meant) (body : List ℕ) (last : Bool) → IsDirect rows query (Ok meant) → body ≡ reply_body (said_reply front (Ok meant))
+pub told_text : (rows : List Row) (front : ℕ) (query : Query) (told : Told) (body : List ℕ) (last : Bool) → direct rows query ≡ Ok told → body ≡ reply_body (said_reply front (Ok told))
     → response_text 200 body None last ≡ reply_text (direct_reply rows front query) None last
-told_text rows front query meant body last is e =
+told_text rows front query told body last is e =
     ap (λ (b : List ℕ). response_text 200 b None last) e
-    ∙ (ap (λ (n : ℕ). response_text n (reply_body (said_reply front (Ok meant))) None last) (sym (told_status front meant))
-    ∙ ap (λ (r : Reply). reply_text r None last) (sym (meanings_are_replied rows front query (Ok meant) is)))
+    ∙ (ap (λ (n : ℕ). response_text n (reply_body (said_reply front (Ok told))) None last) (sym (told_status front told))
+    ∙ ap (λ (meant : Result Told Broken). reply_text (said_reply front meant) None last) (sym is))
 
-pub refused_text : (rows : List Row) (front : ℕ) (query : Query) (broken : Broken) (reply : Reply) (last : Bool) → IsDirect rows query (Err broken) → reply ≡ said_reply front (Err broken)
+pub refused_text : (rows : List Row) (front : ℕ) (query : Query) (broken : Broken) (reply : Reply) (last : Bool) → direct rows query ≡ Err broken → reply ≡ said_reply front (Err broken)
     → reply_text reply None last ≡ reply_text (direct_reply rows front query) None last
-refused_text rows front query broken reply last is e = ap (λ (r : Reply). reply_text r None last) (e ∙ sym (meanings_are_replied rows front query (Err broken) is))
+refused_text rows front query broken reply last is e = ap (λ (r : Reply). reply_text r None last) (e ∙ ap (λ (meant : Result Told Broken). said_reply front meant) (sym is))
 
 -- ---- requests
 

@@ -3,7 +3,6 @@ ghost use Rattle.std.specs.Prelude.{◌≡◌, ◌++◌, ℕ, ℤ, List, IfOk, O
 ghost use Rattle.shop_outside.specs.Clocks.{IsMoment};
 ghost use Rattle.shop_core.specs.declared.answers.Reply.TheVariants as replies;
 ghost use Rattle.shop_core.specs.declared.answers.Request.TheVariants as requests;
-ghost use Rattle.shop_meanings.specs.Direct.{IsAsked};
 ghost use Rattle.shop_core.specs.Indexed.{direct_reply, indexed_answer};
 ghost use Rattle.shop_core.specs.Publishing.{OnlyPublishes};
 ghost use Rattle.shop_core.specs.Requests.{IsBuiltRequest, answered, cart_answer, listing, reading, with_bare};
@@ -276,11 +275,10 @@ fn show_known<P: Keeper + Drop>(
     last: bool,
     out: &mut Vec<u8>,
 ) -> Result<(), NoMemory>
-    requires asked { IsAsked query.now }
     ensures ok { OnOk result (out.new.items ≡ out.old.items ++ reply_text (direct_reply shop.now.copy.rows shop.now.copy.front query.now) None last) }
     ensures err { OnErr result (out.new.items ≡ out.old.items) }
 {
-    match shop.ask(query) {
+    match shop.ask(alloc, query) {
         Ok(answer) => {
             answer_text(alloc, room, shop.front(), &answer)?;
             put_response(out, 200, room.as_slice(), None, last)
@@ -303,7 +301,6 @@ fn tell<P: Keeper + Drop>(
     last: bool,
     out: &mut Vec<u8>,
 ) -> Result<(), NoMemory>
-    requires asked { IsAsked query.now }
     ensures ok { OnOk result (out.new.items ≡ out.old.items ++ reply_text (indexed_answer shop.old.rows shop.old.number query.now min_front) None last) }
     ensures err { OnErr result (out.new.items ≡ out.old.items) }
     ensures only { OnlyPublishes shop.old shop.new }

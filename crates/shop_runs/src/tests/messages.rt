@@ -28,7 +28,7 @@ pub(crate) const READ_CUT: &[u8] =
 
 // What isn't answered yet.
 pub(crate) const LATER: &[u8] =
-    b"GET /product/00000000000000000000000000000020/price HTTP/1.1\r\n\r\n";
+    b"POST /order/00000000000000000000000000000050/process HTTP/1.1\r\n\r\n";
 
 // A write and a read as `curl` sends them.
 pub(crate) const CURL_WRITE: &[u8] =

@@ -1,9 +1,19 @@
-use Rattle.std.proofs.Common.{◌≡◌, ◌++◌, ℕ, List, None, Err, ap, sym, ◌∙◌}
+use Rattle.std.proofs.Common.{◌≡◌, ◌++◌, ℕ, List, None, Ok, Err, ap, sym, ◌∙◌}
 use Rattle.shop_defs.specs.declared.broken.Broken.{Broken}
+use Rattle.idx_copy.specs.Answers.{said}
 use Rattle.shop_core.specs.Indexed.{direct_reply, said_reply}
+use Rattle.shop_json.specs.Replying.{reply_body}
 use Rattle.shop_server.specs.Answering.{reply_text}
-use Rattle.shop_server.proofs.Writes.{done_to, refused_text}
+use Rattle.shop_server.proofs.Writes.{done_to, told_text, refused_text}
 use Rattle.shop_server.proofs.desk.show_known.Goals as goal
+
+pub returns-in_ok-answer_text-in-Ok-clause-ok : goal.returns-in_ok-answer_text-in-Ok-clause-ok
+returns-in_ok-answer_text-in-Ok-clause-ok g c =
+    let shop = c.args.shop.now in
+    let told = said c.in-Ok.answer in
+    let body = c.as_slice.ensures.value ∙ (c.in_ok-answer_text-in-Ok.ensures ∙ ap (λ (front : ℕ). reply_body (said_reply front (Ok told))) c.front.ensures.front) in
+    let text = told_text shop.copy.rows shop.copy.front c.args.query.now told c.as_slice.result.now c.args.last c.in-Ok.ensures.answers body in
+    done_to c.put_response.result (λ e. e ∙ ap (λ (t : List ℕ). c.args.out.now.items ++ t) text) c.put_response.ensures.ok
 
 pub returns-in-Err-Refused-clause-ok : goal.returns-in-Err-Refused-clause-ok
 returns-in-Err-Refused-clause-ok g c =
