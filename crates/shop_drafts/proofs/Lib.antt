@@ -2,6 +2,7 @@ pub mod Keys
 pub mod Orders
 pub mod Counts
 pub mod OwnParts
+pub mod Beside
 pub mod HeldOps
 pub mod Unwritten
 pub mod Apart

@@ -80,7 +80,7 @@ part_whole root lost row part = ap (λ fields. record row { fields = fields }) (
     stays number = false_from_ne_true _ (λ e. by number (any_of (λ reference. sets_null reference.on_delete && is_field reference.part number && list_any (ties reference row) lost) REFERENCES e))
 
 -- nor of one that the delete doesn't touch
-untouched_whole : (rows : List Row) (key : Key) (row : Row) → loses_field REFERENCES rows key row ≡ false → emptied REFERENCES (gone REFERENCES rows key) row ≡ row
+pub untouched_whole : (rows : List Row) (key : Key) (row : Row) → loses_field REFERENCES rows key row ≡ false → emptied REFERENCES (gone REFERENCES rows key) row ≡ row
 untouched_whole rows key row none = ap (λ fields. record row { fields = fields }) (filter_all (λ entry. not (is_emptied REFERENCES (gone REFERENCES rows key) row entry.0)) row.fields (λ entry i. ap not (stays entry i)))
   where
     stays : (entry : ℕ × Value) → IsIn entry row.fields → is_emptied REFERENCES (gone REFERENCES rows key) row entry.0 ≡ false
@@ -146,7 +146,7 @@ module _ (root : Root) (view : View) (op : Op) (agree : Agree root view.version 
   removed_agrees rows None inside e = cc
   removed_agrees rows (Some row) inside e = delete_agrees rows inside (same_rows (deleted REFERENCES view.rows (place view op)) rows (in_use_by (in_use REFERENCES view.rows (place view op))) e).1
 
-  operated_agrees : (rows : List Row) → outside root view op op.kind ≡ None → operated view op false ≡ Ok rows → Agree root view.version rows
+  pub operated_agrees : (rows : List Row) → outside root view op op.kind ≡ None → operated view op false ≡ Ok rows → Agree root view.version rows
   unfolding operated
   operated_agrees rows inside e = by op.kind inside e
     where

@@ -39,7 +39,7 @@ making rows after version name id is not_live e =
     let none = not_there version (row_at rows (draft_key version)) (second_none (not_root m.root) (version_exists rows version) (no_such_root rows m.root ∷ too_many_made rows version m.root ∷ []) m.unbroken) in
     subst AreDrafted m.is (made_drafted rows is version not_live m.root none)
 
-writing : (rows after : List Row) (version : ℕ) (ops : List RawOp) → AreDrafted rows → version ≢ 0 → length ops ≤ 1000 → HaveIds ops → draft_write rows version ops ≡ Ok after → AreDrafted after
+pub writing : (rows after : List Row) (version : ℕ) (ops : List RawOp) → AreDrafted rows → version ≢ 0 → length ops ≤ 1000 → HaveIds ops → draft_write rows version ops ≡ Ok after → AreDrafted after
 writing rows after version ops is not_live few ids e = written_drafted rows after version ops is not_live few ids (accepted_is rows after version ops e)
 
 pub drop_is : (rows after : List Row) (version : ℕ) → AreDrafted rows → version ≢ 0 → drop_draft rows version ≡ Ok after → AreDrafted after

@@ -1,8 +1,9 @@
 -- The rows that a batch in a draft puts beside the draft's own: the draft's row with a commit more, and the commit.
-use Rattle.std.proofs.Common.{◌≡◌, ◌<◌, ◌≤◌, ◌+◌, ◌^◌, ℕ, pos, true, not, List, [], ◌∷◌, length, count_by, arith, refl, ap, subst, ◌∙◌, Option, Some, None}
+use Rattle.std.proofs.Common.{◌≡◌, ◌<◌, ◌≤◌, ◌+◌, ◌^◌, ℕ, pos, true, not, List, [], ◌∷◌, length, count_by, arith, refl, ap, subst, ◌∙◌, Option, Some, None, if◌then◌else◌}
 use Rattle.std.specs.Prelude.{◌&&◌, ◌||◌, is_some}
 use Rattle.std.specs.List.{fold}
-use Rattle.std.proofs.lemmas.Bool.{and_parts, leb-true}
+use Rattle.std.proofs.lemmas.Bool.{and_parts, leb-true, lt-ltb}
+use Rattle.std.proofs.lemmas.Bool.Decides.{Decides-int_eq}
 use Rattle.std.proofs.lemmas.List.Sums.{length-filter}
 use Rattle.closure.proofs.Members.{all_at}
 use Rattle.shop_defs.specs.declared.entity.Entity.{Entity}
@@ -26,6 +27,7 @@ use Rattle.shop_drafts.specs.Soundness.{AreDrafted}
 use Rattle.shop_drafts.specs.Writing.{with_commits}
 use Rattle.shop_drafts.specs.declared.aggregate.TheConstants.{COMMITS}
 use Rattle.shop_rows.proofs.Mentioning.{found_key}
+use Rattle.shop_version.specs.Numbers.{number_told, small_number}
 use Rattle.shop_version.proofs.Found.{in_found}
 
 -- ---- the draft's row
@@ -58,6 +60,12 @@ with_commits_is draft number op entity root given =
 
 -- ---- the number of the next commit
 
+told_is : (value : Option Value) (number : ℕ) → number < 2 ^ 32 → is_number value number ≡ true → number_told value ≡ number
+told_is None number low e = cc
+told_is (Some (V.Int value)) number low e =
+    ap small_number ((Decides-int_eq value (pos number)).0 e) ∙ ap (λ b. if b then number else 0) (lt-ltb number (2 ^ 32) low)
+told_is (Some value) number low e = cc
+
 module _ (rows : List Row) (version : ℕ) (drafted : AreDrafted rows) where
   pub few : length (commits rows version) ≤ 200000
   few =
@@ -75,6 +83,6 @@ module _ (rows : List Row) (version : ℕ) (drafted : AreDrafted rows) where
       subst (λ (k : Key). (not (is_entity E.Draft k.entity) || (count_up 1 (commits rows k.id) && is_number (field_of draft COMMITS) (length (commits rows k.id)))) ≡ true) key has in
       (and_parts _ _ same).1
 
-  -- one more is no number too great
-  pub small : length (commits rows version) < 2 ^ 32
-  small = let f = few in omega arith
+  -- how many are told
+  pub told : (draft : Row) → row_at rows (draft_key version) ≡ Some draft → number_told (field_of draft COMMITS) ≡ length (commits rows version)
+  told draft there = told_is (field_of draft COMMITS) (length (commits rows version)) (let f = few in omega arith) (counted draft there)

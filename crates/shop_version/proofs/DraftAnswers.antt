@@ -48,7 +48,7 @@ whole rows version root draft raw ops first after deltas number changes up n the
     let left = left_is rows version root draft raw ops after deltas number changes up layer of_found read num committed in
     record {
       plan = write_plan rows version root draft raw ops after deltas number changes there rooted done_here room of_found committed left;
-      batch = write_batch rows version root draft raw after deltas changes up n there done_here layer of_found left;
+      batch = write_batch rows version root draft raw after deltas changes up n there rooted done_here layer of_found left;
     }
 
 -- what a draft shows as it is found has keys that fit

@@ -2,6 +2,7 @@
 use Rattle.std.proofs.Common.{◌≡◌, ◌≢◌, ◌<◌, ◌+◌, ◌⊎◌, ℕ, suc, Bool, true, false, not, List, [], ◌∷◌, ◌++◌, length, get_or, drop, drop-cons, add-one, append_assoc, refl, sym, ap, subst, ◌∙◌, Option, Some, None, if◌then◌else◌, Result, Ok, Err}
 use Rattle.std.specs.Prelude.{map, ◌==◌}
 use Rattle.std.specs.List.{AllByRecursion}
+use Rattle.std.specs.Option.{option_and_then}
 use Rattle.closure.specs.Closure.{IsIn}
 use Rattle.shop_defs.specs.declared.broken.Broken.{Broken}
 use Rattle.shop_defs.specs.declared.delta.Delta.{Delta}
@@ -265,14 +266,15 @@ own_written rows version draft ops own shown up n key own_up all e =
     passes (row ∷ rest) all = (eq-eqb row.key.version version all.0, passes rest all.1)
 
 -- in words: the draft's rows are what the same operations leave of what it shows
-pub write_batch : (rows : List Row) (version : ℕ) (root : Root) (draft : Row) (raw : List RawOp) (after : Layer) (deltas : List Delta) (changes : List Change) → IsInKeyOrder rows → version ≢ 0 → row_at rows (draft_key version) ≡ Some draft
+pub write_batch : (rows : List Row) (version : ℕ) (root : Root) (draft : Row) (raw : List RawOp) (after : Layer) (deltas : List Delta) (changes : List Change) → IsInKeyOrder rows → version ≢ 0 → row_at rows (draft_key version) ≡ Some draft → root_of draft ≡ Some root
     → batch_in root (draft_view rows version root) 1 raw ≡ Ok (layer_rows after) → IsLayer after → AreDone (found_layer rows version root) after deltas → change_rows rows changes ≡ written rows version draft (read_all raw) (layer_rows after) → IsBatchInView rows version raw (change_rows rows changes)
-write_batch rows version root draft raw after deltas changes up n there done layer are left =
+write_batch rows version root draft raw after deltas changes up n there rooted done layer are left =
     let same : version ≡ after.version = ap (λ (l : Layer). l.version) (sym are.layer) in
     let own : of_version version (layer_rows after) ≡ after.own = ap (λ v. of_version v (layer_rows after)) same ∙ of_version-layer after layer in
     let all : AllByRecursion (λ row. row.key.version ≡ version) after.own = subst (λ v. AllByRecursion (λ row. row.key.version ≡ v) after.own) (sym same) (own_all after layer) in
     record {
       root = root;
+      rooted = ap (option_and_then root_of) there ∙ rooted;
       shown = layer_rows after;
       batch = drafts_are_views.as_batches root (draft_view rows version root) 1 raw (layer_rows after) done;
       own = ap (of_version version) left ∙ (own_written rows version draft (read_all raw) after.own (layer_rows after) up n (found_key rows (draft_key version) draft there) layer.own_order all own ∙ sym own);

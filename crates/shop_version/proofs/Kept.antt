@@ -132,10 +132,6 @@ module _ (rows : List Row) (version : ℕ) (drafted : AreDrafted rows) (not_live
         (ap (λ k. k ∷ map row_key (commits rows version)) key
         ∙ ap (λ ks. draft_key version ∷ ks) (keys_up version 1 (commits rows version) (λ row i. (of_commits rows version drafted row i).passes) (and_parts _ _ numbered).0)))
 
-    -- how many commits it has, where so many are told
-    pub counted : (count : ℕ) → ((number : ℕ) → number < 2 ^ 32 → is_number (field_of draft COMMITS) number ≡ true → count ≡ number) → count ≡ length (commits rows version)
-    counted count tells = let few = few_commits rows version drafted in tells (length (commits rows version)) (omega arith) (and_parts _ _ numbered).1
-
     -- the keys that are found one after the other
     pub keys_are : (found pushed all : List Key) (own : Key) (count : ℕ) → found ≡ map row_key (of_version version rows) → own ≡ draft_key version → pushed ≡ found ++ own ∷ [] → count ≡ length (commits rows version)
         → all ≡ pushed ++ commit_keys version (numbers 1 count) → all ≡ map row_key (filter (is_of_draft version) rows)

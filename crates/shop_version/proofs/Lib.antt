@@ -30,5 +30,6 @@ pub mod Stays
 pub mod StillDrafted
 pub mod StillWritten
 pub mod AllDrafted
+pub mod StillFew
 pub mod Keepers
 pub mod StillCoherent

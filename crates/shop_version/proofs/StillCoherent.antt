@@ -22,20 +22,25 @@ use Rattle.shop_operations.specs.References.{is_entity, is_live, live}
 use Rattle.shop_operations.specs.Soundness.{IsCoherent}
 use Rattle.shop_operations.specs.Upserts.{count_of}
 use Rattle.shop_operations.specs.Views.{drafted, live_view}
+use Rattle.shop_requests.specs.declared.raw.RawOp.{RawOp}
+use Rattle.shop_write.specs.BatchPlans.{HaveIds}
 use Rattle.shop_soundness.proofs.Lists.{count_filter, each_of}
 use Rattle.shop_drafts.specs.Drafts.{draft_key, is_commit}
 use Rattle.shop_drafts.specs.Making.{drop_draft, dropped, is_of_draft, made, made_rows, make_draft, making_breaks, no_such_root, not_root, too_many_made, version_exists}
 use Rattle.shop_drafts.specs.Merging.{log, merge, with_live}
 use Rattle.shop_drafts.specs.Soundness.{AreDrafted}
+use Rattle.shop_drafts.specs.Writing.{draft_write}
 use Rattle.shop_drafts.specs.declared.aggregate.Root.{Root}
-use Rattle.shop_drafts.proofs.Apart.{dropping, fails_drafted, filter-with, filter_again, live_by_key, live_is, made_is, making, replayed_live}
+use Rattle.shop_drafts.proofs.Apart.{dropping, fails_drafted, filter-with, filter_again, live_by_key, live_is, made_is, making, replayed_live, writing}
 use Rattle.shop_drafts.proofs.Counts.{all_of, hidden_is, split}
 use Rattle.shop_drafts.proofs.Shown.{dropped_again, live_in_order}
 use Rattle.shop_drafts.proofs.Merged.{live_of_parts, replayed_in_order}
 use Rattle.shop_drafts.proofs.Unwritten.{replay_coherent}
 use Rattle.shop_version.specs.Laws.{StayCoherent}
-use Rattle.shop_version.proofs.AllDrafted.{merged_is, merging as merge_drafted, making as make_drafted, drop_is}
+use Rattle.shop_version.proofs.AllDrafted.{merged_is, merging as merge_drafted, making as make_drafted, drop_is, writing as write_drafted}
 use Rattle.shop_version.proofs.Assembled.{log_changes}
+use Rattle.shop_version.proofs.StillFew.{few_written}
+use Rattle.shop_version.proofs.StillWritten.{accepted_is}
 use Rattle.shop_version.proofs.Keepers.{filter_within, is_plain, plain, plain_coherent}
 
 -- ---- live rows that keep no draft
@@ -155,6 +160,13 @@ make_coherent rows after version name id is fit n e =
     only_draft rows after version (make_drafted rows after version name id is n e) fit n (making rows after version name id e)
     (λ entity. subst (λ (all : List Row). count_by (λ row. is_entity entity row.key.entity) all ≤ MOST_ROWS) m.is (few_made rows version m.root fit m.unbroken entity))
 
+-- ---- writing
+
+write_coherent : (rows after : List Row) (version : ℕ) (ops : List RawOp) → AreDrafted rows → IsCoherent (live_view rows) → version ≢ 0 → length ops ≤ 1000 → HaveIds ops → draft_write rows version ops ≡ Ok after → IsCoherent (live_view after)
+write_coherent rows after version ops is fit n few ids e =
+    let still = write_drafted rows after version ops is n few ids e in
+    only_draft rows after version still fit n (writing rows after version ops e) (few_written rows after version ops is n (few_rows rows fit) (accepted_is rows after version ops e) still)
+
 -- ---- merging
 
 pub merge_coherent : (rows after : List Row) (version : ℕ) → AreDrafted rows → IsCoherent (live_view rows) → version ≢ 0 → merge rows version ≡ Ok after → IsCoherent (live_view after)
@@ -182,4 +194,4 @@ merge_coherent rows after version is fit n e =
     omega arith)
 
 pub stay_coherent : StayCoherent
-stay_coherent = record { making = make_coherent; dropping = drop_coherent; merging = merge_coherent }
+stay_coherent = record { making = make_coherent; writing = write_coherent; dropping = drop_coherent; merging = merge_coherent }

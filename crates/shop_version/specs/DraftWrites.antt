@@ -1,5 +1,5 @@
 -- What the plan of a batch in a draft answers.
-use Rattle.std.specs.Prelude.{◌≡◌, ◌≢◌, ℕ, true, List, Result, Ok, Err}
+use Rattle.std.specs.Prelude.{◌≡◌, ◌≢◌, ℕ, true, List, Some, Result, Ok, Err}
 use Rattle.std.specs.List.{list_all}
 use Rattle.shop_defs.specs.declared.delta.Delta.{Delta}
 use Rattle.shop_defs.specs.declared.op.Op.{Op}
@@ -14,7 +14,7 @@ use Rattle.shop_operations.specs.References.{of_version}
 use Rattle.shop_rows.specs.Changing.{StandUnderTheirKeys, HasAscendingKeys}
 use Rattle.shop_soundness.specs.Batches.{batch}
 use Rattle.shop_write.specs.Writes.{TakesUpsert}
-use Rattle.shop_drafts.specs.Drafts.{draft_view}
+use Rattle.shop_drafts.specs.Drafts.{draft_view, root_in}
 use Rattle.shop_drafts.specs.Laws.{OthersShowTheSame}
 use Rattle.shop_drafts.specs.Making.{dropped}
 use Rattle.shop_drafts.specs.Writing.{draft_write}
@@ -40,9 +40,11 @@ abbrev pub PlansWrite : List Row → ℕ → List RawOp → Result Delta PlanFau
 PlansWrite rows version ops (Ok delta) = IsWritePlan rows version ops delta.changes
 PlansWrite rows version ops (Err fault) = IsWriteFault rows version ops fault
 
--- the batch is done over what the draft shows: the draft's rows are then those of its version that the operations leave of it
+-- the batch is done over what the version's draft shows, by the root that its row names: the draft's rows are then those of its
+-- version that the operations leave of it
 pub record IsBatchInView (rows : List Row) (version : ℕ) (ops : List RawOp) (after : List Row) : Type 0 where
   pub root : Root
+  pub rooted : root_in rows version ≡ Some root
   pub shown : List Row
   pub batch : batch (draft_view rows version root) 1 ops ≡ Ok shown
   pub own : of_version version after ≡ of_version version shown

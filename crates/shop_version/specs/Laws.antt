@@ -74,5 +74,6 @@ pub record StayDrafted : Type 0 where
 -- and live rows that fit one another
 pub record StayCoherent : Type 0 where
   pub making : (rows after : List Row) (version : ℕ) (name : List ℕ) (id : ℕ) → AreDrafted rows → IsCoherent (live_view rows) → version ≢ 0 → make_draft rows version name id ≡ Ok after → IsCoherent (live_view after)
+  pub writing : (rows after : List Row) (version : ℕ) (ops : List RawOp) → AreDrafted rows → IsCoherent (live_view rows) → version ≢ 0 → length ops ≤ 1000 → HaveIds ops → draft_write rows version ops ≡ Ok after → IsCoherent (live_view after)
   pub dropping : (rows after : List Row) (version : ℕ) → AreDrafted rows → IsCoherent (live_view rows) → version ≢ 0 → drop_draft rows version ≡ Ok after → IsCoherent (live_view after)
   pub merging : (rows after : List Row) (version : ℕ) → AreDrafted rows → IsCoherent (live_view rows) → version ≢ 0 → merge rows version ≡ Ok after → IsCoherent (live_view after)

@@ -28,7 +28,7 @@ use std::alloc::Global;
 /// What the operations change in the draft of that version, done one after the other over what it
 /// shows, all or none; they are one commit more of it.
 ///
-/// Each operation has an id, there are at most 1,000, and the version isn't the live one. The rows pass
+/// There are 1 to 1,000 operations, each with an id, and the version isn't the live one. The rows pass
 /// the rule on drafts. The first operation that breaks a rule refuses the whole, with its number,
 /// counted from 1; where there may be no commit more, the last one does. Without such a draft the first
 /// operation is refused, by the rules on names, values and entities without versions, or by
@@ -40,6 +40,7 @@ pub fn plan_draft_write(
     version: u128,
     ops: &List<RawOp>,
 ) -> Result<Delta, PlanFault>
+    requires some { 0 < length ops.now }
     requires few { length ops.now ≤ 1000 }
     requires ids { HaveIds ops.now }
     requires drafted { AreDrafted rows.now.list }

@@ -1,12 +1,13 @@
 //! The rows that keep a draft, found by look-ups.
-ghost use Rattle.std.specs.Prelude.{◌≡◌, ◌≢◌, ℕ, ◌<◌, ◌^◌, ◌++◌, pos, Some, IfOk, OnOk, map, filter, true};
+ghost use Rattle.std.specs.Prelude.{◌≡◌, ◌≢◌, ℕ, ◌++◌, List, Some, IfOk, OnOk, map, filter, length};
 ghost use Rattle.std.specs.Option.{option_copied};
+ghost use Rattle.shop_defs.specs.declared.row.Row.{Row};
 ghost use Rattle.shop_defs.specs.Rows.{row_at, row_key, field_of};
 ghost use Rattle.shop_operations.specs.References.{of_version};
-ghost use Rattle.shop_drafts.specs.Damage.{is_number};
 ghost use Rattle.shop_drafts.specs.Drafts as spec;
 ghost use Rattle.shop_drafts.specs.Making.{is_of_draft};
 ghost use Rattle.shop_drafts.specs.Soundness.{AreDrafted};
+ghost use Rattle.shop_version.specs.Numbers.{number_told, small_number};
 ghost use Rattle.shop_version.specs.Taking.{parts, of_member, numbers, commit_keys};
 
 use shop_defs::{Key, NoMemory, Row, Value};
@@ -21,15 +22,17 @@ pub fn draft_of<'a>(rows: &'a Rows, version: u128) -> Option<&'a Row>
     rows.get(&draft_key(version))
 }
 
-/// How many commits a draft has, as its row says: 0 where it says nothing of the kind.
+/// How many commits a draft has, as its row tells: 0 where it tells no number below 2^32.
 pub fn commit_count(draft: &Row) -> u32
-    ensures { (number : ℕ) → number < 2 ^ 32 → is_number (field_of draft.now COMMITS) number ≡ true → result ≡ number }
+    ensures told { result ≡ number_told (field_of draft.now COMMITS) }
+    // Among rows that pass the rule on drafts, it is how many there are.
+    ensures commits { (rows : List Row) (version : ℕ) → AreDrafted rows → row_at rows (spec.draft_key version) ≡ Some draft.now → result ≡ length (spec.commits rows version) }
 {
     count_in(draft.field(COMMITS))
 }
 
 fn count_in(value: Option<&Value>) -> u32
-    ensures { (number : ℕ) → number < 2 ^ 32 → is_number (option_copied value.entry) number ≡ true → result ≡ number }
+    ensures { result ≡ number_told (option_copied value.entry) }
 {
     match value {
         Some(Value::Int(count)) => small(*count),
@@ -37,9 +40,9 @@ fn count_in(value: Option<&Value>) -> u32
     }
 }
 
-/// The number, where it is none below 0 and fits.
+/// The number, where it is none below 0 and below 2^32, and else 0.
 fn small(count: i64) -> u32
-    ensures { (number : ℕ) → number < 2 ^ 32 → count ≡ pos number → result ≡ number }
+    ensures { result ≡ small_number count }
 {
     if count < 0 {
         return 0;

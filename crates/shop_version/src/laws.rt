@@ -7,8 +7,8 @@ pub fn law_of_drafted_rows()
     ensures { StayDrafted }
 {}
 
-/// Where a draft is made, dropped or merged over live rows that fit one another, the live rows then
-/// fit one another.
+/// Where a draft is made, written, dropped or merged over live rows that fit one another, the live
+/// rows then fit one another.
 pub fn law_of_coherent_rows()
     ensures { StayCoherent }
 {}

@@ -3,9 +3,9 @@
 //!
 //! # What is promised
 //!
-//! - `draft_of`, `commit_count` and `own_keys` find what keeps a draft: its row, how many commits it
-//!   has, the keys of the rows of its version. They ask for rows that can be worked on (`AreDrafted` of
-//!   `shop_drafts`) where they say so.
+//! - `draft_of`, `commit_count` and `own_keys` find what keeps a draft: its row, how many commits that
+//!   tells, which among rows that can be worked on (`AreDrafted` of `shop_drafts`) is how many there
+//!   are, and the keys of the rows of its version. They ask for such rows where they say so.
 //! - `overlay_get` lends the row that a version shows at a place: the row at it in `shown_rows` of
 //!   `shop_drafts`, and takes no memory.
 //! - `law_of_what_drafts_show`: over rows whose keys are of their entities' forms, what a draft shows
@@ -25,10 +25,11 @@
 //! - `plan_draft_write` does a batch in a draft, all or none. Its changes make the rows those of
 //!   `draft_write`, or it answers the first refusal (`PlansWrite`), both ways. In words: all rows that
 //!   aren't of the draft stay, and so does what live and each other draft show (`WriteLeavesOthers`);
-//!   the draft's rows are those that the same operations leave of what it shows (`WriteIsBatch`).
+//!   the draft's rows are those that the same operations leave of what it shows, by the root that its
+//!   row names (`WriteIsBatch`).
 //! - `law_of_drafted_rows`: making, writing, dropping and merging a draft leave rows that can be worked
-//!   on, and so does a batch on the live rows. `law_of_coherent_rows`: making, dropping and merging one
-//!   leave live rows that fit one another.
+//!   on, and so does a batch on the live rows. `law_of_coherent_rows`: so do making, writing, dropping
+//!   and merging one leave live rows that fit one another.
 //! - They cost in proportion to the draft, its operations and what these change: that is how they are
 //!   written, and no clause speaks of it.
 #![tactic(auto)]

@@ -4,14 +4,14 @@ use Rattle.shop_operations.specs.Soundness.{IsCoherent}
 use Rattle.shop_write.specs.Growth.{grown_view}
 use Rattle.shop_write.proofs.BatchSteps.{view_first}
 use Rattle.shop_version.proofs.Ends.{merged_plan, merged_fault, merge_err}
-use Rattle.shop_version.proofs.Kept.{counted, numbered}
+use Rattle.shop_version.proofs.Kept.{numbered}
 use Rattle.shop_version.proofs.merging.merged.Goals as goal
 
 pub replay-requires-clause-coherent : goal.replay-requires-clause-coherent
 replay-requires-clause-coherent c = subst IsCoherent (sym (ap grown_view c.new-growing.ensures ∙ view_first c.args.rows.now.list)) c.requires.coherent
 
 pub replay-requires-clause-count : goal.replay-requires-clause-count
-replay-requires-clause-count c = counted c.args.rows.now.list c.args.version c.requires.drafted c.requires.not_live c.args.draft.now c.requires.draft c.commit_count.result c.commit_count.ensures
+replay-requires-clause-count c = c.commit_count.ensures.commits c.args.rows.now.list c.args.version c.requires.drafted c.requires.draft
 
 pub replay-requires-clause-numbered : goal.replay-requires-clause-numbered
 replay-requires-clause-numbered c = (and_parts _ _ (numbered c.args.rows.now.list c.args.version c.requires.drafted c.requires.not_live c.args.draft.now c.requires.draft)).0
